@@ -1,0 +1,109 @@
+-- The table statement: one computed test a table, and one law that turns it into the rule at each entry, over the degree limit.
+use mathlib.Core.Path.{_≡_, refl, sym, _∙_, ap, subst}
+use mathlib.Core.Bool.{Bool, true, false, _&&_}
+use mathlib.Core.List.{List, [], _∷_, map}
+use Prim.Native.Nat.{ℕ, zero, suc, _+_, _-_, _*_, _^_, _<_}
+use native.Mathlib.Nat.{add-zero, zero-add, add-suc, suc-add, le-of-suc-le-suc, not-suc-le-zero}
+use lib.Dec.{T, eqb, leb, eqb→eq, ltb, ltb→lt}
+use lib.IntN.{ℤ, pos}
+use lib.ListN.{length, getD}
+use lib.Ieee.{Float, nan, binary32, ofBits, toBits, round, fits}
+use lib.Ieee.Bits.{ofBits-toBits}
+use lib.Ieee.Fits.{round-fits, cond-fits, and-l, and-r}
+use Rattle.tables.specs.Degree.{N-MAX, N-LEGENDRE, place}
+use Rattle.tables.specs.Tables.{schmidtBits, kBits, schmidtTable, kTable, schmidtAt, kAt}
+use Rattle.tables.specs.Rule.{kOf, factorial, central, squareNum, squareDen, units, NearestRoot, moved, misses}
+
+-- ---- a test of every number below a limit
+-- the test f passes at i, i + 1, .., i + n - 1
+unfoldable every : (ℕ → Bool) → ℕ → ℕ → Bool
+every f i zero = true
+every f i (suc n) = f i && every f (suc i) n
+
+from : (f : ℕ → Bool) (i n : ℕ) → T (every f i n) → (k : ℕ) → k < n → T (f (i + k))
+unfolding every
+from f i zero t k h = absurd (not-suc-le-zero h)
+from f i (suc n) t zero h = rw add-zero (and-l (f i) (every f (suc i) n) t)
+from f i (suc n) t (suc k) h = rw (add-suc, ← suc-add) (from f (suc i) n (and-r (f i) (every f (suc i) n) t) k (le-of-suc-le-suc h))
+
+all : (f : ℕ → Bool) (n : ℕ) → T (every f 0 n) → (k : ℕ) → k < n → T (f k)
+all f n t k h = subst (λ (j : ℕ). T (f j)) (zero-add k) (from f 0 n t k h)
+
+-- the test passes at each order of each degree up to N
+unfoldable triangle : (ℕ → ℕ → Bool) → ℕ → Bool
+unfolding every
+triangle f N = every (λ n. every (f n) 0 (suc n)) 0 (suc N)
+
+at-place : (f : ℕ → ℕ → Bool) (N : ℕ) → T (triangle f N) → (n m : ℕ) → n < suc N → m < suc n → T (f n m)
+unfolding triangle
+at-place f N t n m hn hm = all (f n) (suc n) (all (λ n. every (f n) 0 (suc n)) (suc N) t n hn) m hm
+
+-- ---- K: every entry is the nearest f32
+unfoldable k-right : List ℕ → ℕ → ℕ → Bool
+unfolding kOf
+k-right bits n m = eqb (getD bits (place n m) 0) (toBits binary32 (kOf n m))
+
+kOf-fits : (n m : ℕ) → T (fits binary32 (kOf n m))
+unfolding kOf fits
+kOf-fits n m = cond-fits binary32 (leb (m + 2) n) _ _ (round-fits binary32 false _ _) tt
+
+k-law : (N : ℕ) (bits : List ℕ) → T (triangle (k-right bits) N) → (n m : ℕ) → n < suc N → m < suc n → ofBits binary32 (getD bits (place n m) 0) ≡ kOf n m
+unfolding k-right
+k-law N bits t n m hn hm = ap (ofBits binary32) (eqb→eq _ _ (at-place (k-right bits) N t n m hn hm)) ∙ ofBits-toBits binary32 (kOf n m) (kOf-fits n m)
+
+pub k-rule : (n m : ℕ) → n < suc N-MAX → m < suc n → kAt (place n m) ≡ kOf n m
+unfolding kAt triangle k-right kBits toBits round
+k-rule n m hn hm = k-law N-MAX kBits tt n m hn hm
+
+-- ---- Schmidt: every entry, moved by its miss, is the nearest f32
+abbrev lowTest : ℕ → ℕ → ℕ → Bool
+lowTest num den b = ltb (den * ((units (b - 1) + units b) * (units (b - 1) + units b))) (4 * num * 2 ^ 298)
+
+abbrev highTest : ℕ → ℕ → ℕ → Bool
+highTest num den b = ltb (4 * num * 2 ^ 298) (den * ((units b + units (b + 1)) * (units b + units (b + 1))))
+
+unfoldable near : ℕ → ℕ → ℕ → Bool
+near num den b = lowTest num den b && highTest num den b
+
+near-is : (num den b : ℕ) → T (near num den b) → NearestRoot num den b
+unfolding near
+near-is num den b t =
+    record {
+      above = ltb→lt _ _ (and-l (lowTest num den b) (highTest num den b) t);
+      below = ltb→lt _ _ (and-r (lowTest num den b) (highTest num den b) t);
+    }
+
+-- the stored pattern at n, m, moved by its miss
+abbrev pub mended : List ℕ → List ℤ → ℕ → ℕ → ℕ
+mended bits steps n m = moved (getD bits (place n m) 0) (getD steps (place n m) (pos 0))
+
+unfoldable schmidt-right : List ℕ → List ℤ → ℕ → ℕ → Bool
+unfolding near
+schmidt-right bits steps n m = near (squareNum n m) (squareDen n m) (mended bits steps n m)
+
+schmidt-law : (N : ℕ) (bits : List ℕ) (steps : List ℤ) → T (triangle (schmidt-right bits steps) N) → (n m : ℕ) → n < suc N → m < suc n
+    → NearestRoot (squareNum n m) (squareDen n m) (mended bits steps n m)
+unfolding schmidt-right
+schmidt-law N bits steps t n m hn hm = near-is _ _ _ (at-place (schmidt-right bits steps) N t n m hn hm)
+
+pub schmidt-rule : (n m : ℕ) → n < suc N-MAX → m < suc n → NearestRoot (squareNum n m) (squareDen n m) (mended schmidtBits misses n m)
+unfolding triangle schmidt-right schmidtBits misses squareNum squareDen central factorial units ofBits
+schmidt-rule n m hn hm = schmidt-law N-MAX schmidtBits misses tt n m hn hm
+
+-- ---- a table's entry by its place
+getD-map : {A B : Type 0} (f : A → B) (xs : List A) (a : A) (b : B) (k : ℕ) → k < length xs → getD (map f xs) k b ≡ f (getD xs k a)
+getD-map f [] a b k h = absurd (not-suc-le-zero h)
+getD-map f (x ∷ xs) a b zero h = refl
+getD-map f (x ∷ xs) a b (suc k) h = getD-map f xs a b k (le-of-suc-le-suc h)
+
+pub schmidt-entry : (i : ℕ) → i < N-LEGENDRE → getD schmidtTable i nan ≡ schmidtAt i
+unfolding schmidtTable schmidtAt schmidtBits
+schmidt-entry i h = getD-map (ofBits binary32) schmidtBits 0 nan i h
+
+pub k-entry : (i : ℕ) → i < N-LEGENDRE → getD kTable i nan ≡ kAt i
+unfolding kTable kAt kBits
+k-entry i h = getD-map (ofBits binary32) kBits 0 nan i h
+
+-- the contract of a table allows one result
+pub one-table : (t r s : List Float) → r ≡ t → s ≡ t → r ≡ s
+one-table t r s e f = e ∙ sym f
