@@ -42,3 +42,12 @@ abbrev pub unitsOf : Float → ℕ
 unitsOf nan = 0
 unitsOf (inf s) = 0
 unitsOf (fin s m e) = m * up e * 2 ^ 149 / down e
+
+-- a size: num / over
+pub record Size : Type 0 where
+  pub num : ℕ
+  pub over : ℕ
+
+-- the majorant of an exact number: its parts added
+abbrev pub size : Exact → Size
+size x = record { num = x .plus + x .minus; over = x .over }

@@ -11,7 +11,7 @@ use lib.Ieee.Fits.{down-pos, round-is}
 use lib.Ieee.Order.{drop, kept, round-mono}
 use lib.Ieee.Scale.{finite}
 use Rattle.exact.specs.Exact.{Exact, own}
-use Rattle.exact.specs.Sizes.{AtMost, capped}
+use Rattle.exact.specs.Sizes.{AtMost, size-between}
 
 abbrev Fit : ℕ → Float → Type 0
 Fit B x = T (finite x) × AtMost B x
@@ -51,7 +51,7 @@ pub record Holds (B m : ℕ) (e : ℤ) : Type 0 where
 
 round-fit-pos : (B m : ℕ) (e : ℤ) (num den : ℕ) → Holds B m e → 0 < den → num ≤ B * den → Fit B (round binary32 false num den)
 round-fit-pos B m e num den b D h =
-    capped B false false 0 m (pos 0) e (round binary32 false num den) zero-le (b .at-most)
+    size-between B false false 0 m (pos 0) e (round binary32 false num den) zero-le (b .at-most)
     (subst (λ (z : Float). T (le z (round binary32 false num den))) zero-is (round-mono binary32 0 1 num den (lit< tt) D (le-trans (le-of-eq (zero-mul den)) zero-le)))
     (subst (λ (z : Float). T (le (round binary32 false num den) z)) (b .is) (round-mono binary32 num den B 1 D (lit< tt) (le-trans (le-of-eq (mul-one num)) h)))
 

@@ -1,11 +1,12 @@
 -- Rank, size and slack as one value, and the rules of nearness on it: what a formula's rank, size and slack come to is then a computation.
-use Prim.Native.Nat.{ℕ, suc, _+_, _*_, _^_, _≤_, max}
-use native.Mathlib.Nat.{le-suc, le-max-left, le-max-right, le-refl, le-trans, lt-of-le-of-lt, le-add-right}
+use mathlib.Core.Path.{_∙_, subst}
+use Prim.Native.Nat.{ℕ, suc, _+_, _*_, _^_, _≤_, max, zero}
+use native.Mathlib.Nat.{le-suc, le-max-left, le-max-right, le-refl, le-trans, lt-of-le-of-lt, le-add-right, zero-add, suc-add, le-dest, add-comm}
 use mathlib.Core.Bool.{Bool, _&&_}
 use lib.Dec.{T, leb, ltb, leb→le, ltb→lt}
 use lib.Ieee.{Float, binary32, add, sub, mul}
 use lib.Ieee.Fits.{and-l, and-r}
-use Rattle.exact.specs.Exact.{Exact, addE, mulE, subE}
+use Rattle.exact.specs.Exact.{Exact, addE, mulE, subE, own}
 use Rattle.exact.specs.Near.{Near, Fine, near-mul, near-add, near-neg, weaken}
 
 -- ---- the same rules, as they are used
@@ -57,3 +58,29 @@ nr-add {a} {b} m n f =
 pub nr-sub : {a b : Abs} {f g : Float} {x y : Exact} → Nr a f x → Nr b g y → FineA (addA a b) → Nr (addA a b) (sub binary32 f g) (subE x y)
 unfolding sub subE
 nr-sub m n f = nr-add m (near-neg n) f
+
+-- a float as it stands, of size at most B
+abbrev pub Leaf : ℕ → Float → Type 0
+Leaf B f = Nr (leafA B) f (own f)
+
+-- ---- no more of each, and a family that grows at each step
+abbrev pub Under : Abs → Abs → Type 0
+Under a b = (a .rank ≤ b .rank) × (a .size ≤ b .size) × (a .slack ≤ b .slack)
+
+pub nr-under : {a b : Abs} {f : Float} {x : Exact} → Under a b → Nr a f x → Nr b f x
+nr-under u m = weaken (u .0) (u .1) (u .2) m
+
+pub fine-under : {a b : Abs} → Under a b → FineA b → FineA a
+fine-under u f = fine-below f (u .0) (u .1) (u .2)
+
+climb : (F : ℕ → Abs) → ((n : ℕ) → Under (F n) (F (suc n))) → (n j : ℕ) → Under (F n) (F (j + n))
+climb F h n zero = simp zero-add (le-refl (F n .rank), le-refl (F n .size), le-refl (F n .slack))
+climb F h n (suc j) =
+    let a = climb F h n j in
+    let b = h (j + n) in
+    simp suc-add (le-trans (a .0) (b .0), le-trans (a .1) (b .1), le-trans (a .2) (b .2))
+
+pub grows : (F : ℕ → Abs) → ((n : ℕ) → Under (F n) (F (suc n))) → (n k : ℕ) → n ≤ k → Under (F n) (F k)
+grows F h n k l =
+    let d = le-dest l in
+    subst (λ (z : ℕ). Under (F n) (F z)) (add-comm (d .0) n ∙ d .1) (climb F h n (d .0))

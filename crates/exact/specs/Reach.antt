@@ -10,7 +10,7 @@ use lib.IntN.{ℤ}
 use lib.Ieee.{Float, nan, inf, fin, up, down}
 use lib.Ieee.Scale.{finite}
 use Rattle.exact.specs.Frac.{Lower, Upper, by-le}
-use Rattle.exact.specs.Exact.{Exact, own}
+use Rattle.exact.specs.Exact.{Exact, own, size}
 use Rattle.exact.specs.Ops.{Rep, Is, size-of}
 use Rattle.exact.specs.Within.{Within}
 use Rattle.exact.specs.Near.{lo, hi, lo-pos, twice, rank-bound, Close, Near, Fine, bound, finite-is}
@@ -75,12 +75,13 @@ one-side k E p q d a b c P Q D l e dp i u w =
     (linear (p * D) (P * d) (Q * d) (q * D) (D * d) (flat-upper (lo k) (hi k) (2 ^ 150) E p d P D (lo-pos k) (pow-pos 150) (rank-bound k l) (mul-le-mul-right 4194304 e) u)
     (flat-lower (lo k) (hi k) q d Q D (lo-pos k) (rank-bound k l) w))
 
-pub within : {k B E : ℕ} {f : Float} {x : Exact} → Near k B E f x → k ≤ 127 → E ≤ 2 ^ 128 → Within f x
+pub within : {k B E : ℕ} {f : Float} {x : Exact} → Near k B E f x → k ≤ 127 → E ≤ 2 ^ 128 → Within f x (size x)
 within {k} {B} {E} {f} {x} m l e =
     let c = m .close in
     let i = is-cross f (m .p) (m .q) (m .d) (m .is) in
     record {
       is-finite = finite-is f (m .p) (m .q) (m .d) (m .is);
+      same-over = refl;
       above = one-side k E (m .p) (m .q) (m .d) (own f .plus) (own f .minus) (own f .over) (x .plus) (x .minus) (x .over) l e (c .pos) i (c .phi) (c .qlo);
       below = rw (add-comm (x .plus) (x .minus)) (one-side k E (m .q) (m .p) (m .d) (own f .minus) (own f .plus) (own f .over) (x .minus) (x .plus) (x .over) l e (c .pos) (sym i) (c .qhi) (c .plo));
     }

@@ -40,22 +40,22 @@ scale-down : (B a d n c : ℕ) → 0 < c → a * c ≤ n * d → n ≤ B * c →
 scale-down B a d n c C h k = le-of-mul-le-mul-right (le-trans h (le-trans (mul-le-mul-right d k) (le-of-eq (mul-right-comm B c d)))) C
 
 -- between two floats of size at most B
-pub capped : (B : ℕ) (s t : Bool) (m n : ℕ) (e d : ℤ) (x : Float) → m * up e ≤ B * down e → n * up d ≤ B * down d → T (le (fin s m e) x) → T (le x (fin t n d)) → T (finite x) × AtMost B x
+pub size-between : (B : ℕ) (s t : Bool) (m n : ℕ) (e d : ℤ) (x : Float) → m * up e ≤ B * down e → n * up d ≤ B * down d → T (le (fin s m e) x) → T (le x (fin t n d)) → T (finite x) × AtMost B x
 unfolding le lt eq own
-capped B s t m n e d nan a b p q = absurd q
-capped B s t m n e d (inf false) a b p q = absurd q
-capped B s t m n e d (inf true) a b p q = absurd p
-capped B s false m n e d (fin false k c) a b p q =
+size-between B s t m n e d nan a b p q = absurd q
+size-between B s t m n e d (inf false) a b p q = absurd q
+size-between B s t m n e d (inf true) a b p q = absurd p
+size-between B s false m n e d (fin false k c) a b p q =
     (tt, le-trans (le-of-eq (add-zero (k * up c))) (scale-down B (k * up c) (down c) (n * up d) (down d) (down-pos d) (or-le (k * up c * down d) (n * up d * down c) true q) b))
-capped B s true m n e d (fin false k c) a b p q =
+size-between B s true m n e d (fin false k c) a b p q =
     (tt, le-trans (le-of-eq (add-zero (k * up c))) (scale-down B (k * up c) (down c) (n * up d) (down d) (down-pos d) (le-of-eq (same (k * up c * down d) (n * up d * down c) (eqb (k * up c * down d) 0) q)) b))
-capped B false t m n e d (fin true k c) a b p q =
+size-between B false t m n e d (fin true k c) a b p q =
     (tt, le-trans (le-of-eq (zero-add (k * up c))) (scale-down B (k * up c) (down c) (m * up e) (down e) (down-pos e) (le-of-eq (sym (same (m * up e * down c) (k * up c * down e) (eqb (m * up e * down c) 0) p))) a))
-capped B true t m n e d (fin true k c) a b p q =
+size-between B true t m n e d (fin true k c) a b p q =
     (tt, le-trans (le-of-eq (zero-add (k * up c))) (scale-down B (k * up c) (down c) (m * up e) (down e) (down-pos e) (or-ge (m * up e * down c) (k * up c * down e) true p) a))
 
 pub leaf : (B : ℕ) (s t : Bool) (m n : ℕ) (e d : ℤ) (x : Float) → m * up e ≤ B * down e → n * up d ≤ B * down d → T (le (fin s m e) x) → T (le x (fin t n d)) → Near 0 B 0 x (own x)
-leaf B s t m n e d x a b p q = let h = capped B s t m n e d x a b p q in near-own (h .0) (h .1)
+leaf B s t m n e d x a b p q = let h = size-between B s t m n e d x a b p q in near-own (h .0) (h .1)
 
 -- of size at most B, by a test of its size
 pub size-leaf : (B n : ℕ) (d : ℤ) (x : Float) → n * up d ≤ B * down d → T (le (abs x) (fin false n d)) → Near 0 B 0 x (own x)

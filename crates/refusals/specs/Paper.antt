@@ -1,6 +1,6 @@
 -- The paper's number and values of every answer. Document 01, "Refusal numbers".
 use mathlib.Core.Path.{_≡_, refl, sym, ap, _∙_}
-use mathlib.Core.Bool.{cond}
+use mathlib.Core.Bool.{Bool, true, false, cond}
 use mathlib.Core.Logic.{_⊎_, inl, inr}
 use mathlib.Core.List.{List, [], _∷_}
 use Prim.Native.Nat.{ℕ}
@@ -32,6 +32,11 @@ paper Colatitude = refused 9 [] []
 paper Ratio = refused 10 [] []
 paper Offset = refused 11 [] []
 paper Unusable = refused 12 [] []
+
+-- r, unless the test passes
+abbrev pub unless : {A : Type 0} → Bool → Paper A → Paper A → Paper A
+unless true r p = p
+unless false r p = r
 
 -- ---- the number and the values leave one refusal
 size : ℤ → ℕ
@@ -86,3 +91,8 @@ no-answer {A} k a e = go (sym (read-paper {A = A} k) ∙ ap read e)
 
 pub answered-one : {A : Type 0} (a b : A) → answered a ≡ answered b → a ≡ b
 answered-one a b e = cc
+
+-- an answer that stands behind a test: the test passed
+pub passed : {A : Type 0} (b : Bool) (k : Refusal) (p : Paper A) (a : A) → unless b (paper k) p ≡ answered a → (b ≡ true) × (p ≡ answered a)
+passed true k p a e = (refl, e)
+passed false k p a e = absurd (no-answer k a e)

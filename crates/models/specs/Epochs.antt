@@ -1,0 +1,66 @@
+-- The entry Epoch. Document 01, module 8 and refusals 4 and 5. Definitions only.
+use mathlib.Core.Bool.{Bool, false, not, _||_}
+use mathlib.Core.List.{[], _∷_}
+use Prim.Native.Nat.{ℕ, _-_}
+use lib.Dec.{eqb}
+use lib.IntN.{ℤ, pos, negsuc, _*ℤ_, _-ℤ_}
+use lib.Signed.{ltZ, quotZ}
+use lib.Ieee.{Float, binary32, ofInt, add, div}
+use Rattle.refusals.specs.Paper.{Paper, answered, refused, paper, unless}
+use Rattle.models.specs.declared.epochs.EpochOffset.{EpochOffset}
+use Rattle.models.specs.declared.epochs.EpochAnswer.{EpochAnswer}
+use Rattle.models.specs.declared.epochs.EpochAnswer.the-variants.{Epoch, Refused}
+use Rattle.models.specs.Calendar.{daysInYear}
+
+-- refusal 4
+abbrev pub wrongDay : {A : Type 0} → Paper A
+wrongDay = refused 4 [] []
+
+-- refusal 5, with its first and its last day
+abbrev pub wrongEpoch : {A : Type 0} → Paper A
+wrongEpoch = refused 5 [] (pos 2020 ∷ pos 1 ∷ pos 2029 ∷ pos 365 ∷ [])
+
+-- the day is neither below 1 nor above that year's length
+unfoldable pub dayExists : (year day : ℤ) → Bool
+dayExists year day = not (ltZ day (pos 1) || ltZ (pos (daysInYear year)) day)
+
+-- year / 5 · 5, the division cut toward zero
+unfoldable pub epochYear : ℤ → ℤ
+epochYear year = quotZ year (pos 5) *ℤ pos 5
+
+-- the year is n
+abbrev pub isYear : ℕ → ℤ → Bool
+isYear n (pos y) = eqb y n
+isYear n (negsuc y) = false
+
+-- 2020 or 2025
+unfoldable pub knownEpoch : ℤ → Bool
+knownEpoch e = isYear 2020 e || isYear 2025 e
+
+-- a + b / n, each operation rounded once
+abbrev pub wholeAndPart : ℤ → ℤ → ℕ → Float
+wholeAndPart a b n = add binary32 (ofInt binary32 a) (div binary32 (ofInt binary32 b) (ofInt binary32 (pos n)))
+
+-- (year - epoch) + (day - 1)/(days in the year)
+unfoldable pub offsetOf : (year epoch day : ℤ) → Float
+offsetOf year epoch day = wholeAndPart (year -ℤ epoch) (day -ℤ pos 1) (daysInYear year)
+
+-- the same of naturals, for a year of n days
+abbrev pub naturalOffset : (year epoch day n : ℕ) → Float
+naturalOffset year epoch day n = wholeAndPart (pos (year - epoch)) (pos (day - 1)) n
+
+-- what an answer says
+abbrev pub said : EpochAnswer → Paper EpochOffset
+said (Epoch e) = answered e
+said (Refused k) = paper k
+
+-- the epoch year and the offset
+abbrev pub epochOffset : (year day : ℤ) → EpochOffset
+epochOffset year day = record { «epoch_year» = epochYear year; offset = offsetOf year (epochYear year) day }
+
+-- refusal 4, then refusal 5, then the answer
+unfoldable pub epochSays : (year day : ℤ) → Paper EpochOffset
+epochSays year day =
+    unless (dayExists year day) wrongDay
+    (unless (knownEpoch (epochYear year)) wrongEpoch
+    (answered (epochOffset year day)))

@@ -1,0 +1,7 @@
+-- Laws that the proofs of the loops lean on.
+pub mod PlaceSizes
+pub mod Filled
+pub mod RowsHold
+pub mod GeneralSum
+pub mod PoleSum
+pub mod Checked

@@ -1,0 +1,88 @@
+-- `synthesis::date::at_date` meets its contract. The entries below i are filled in. Assumes nothing.
+use mathlib.Core.Path.{_≡_, refl}
+use mathlib.Core.List.{_++_, append-nil}
+use Prim.Native.Nat.{ℕ, _≤_, _-_}
+use native.Mathlib.Omega.{arith}
+use borrow.Author.Needs.{needs}
+use lib.ListN.{getD, drop}
+use lib.Ieee.{nan}
+use Rattle.tables.specs.Degree.{N-COEFF}
+use Rattle.synthesis.specs.Arithmetic.{rounded}
+use Rattle.synthesis.specs.Recurrence.{coefficient}
+use Rattle.synthesis.specs.Code.{first, atDate}
+use Rattle.synthesis.proofs.Filled.{first-next}
+use Rattle.synthesis.proofs.date.at_date.Statement.{statement}
+use Rattle.synthesis.proofs.date.at_date.Tie as tie
+
+abbrev Inv-loop : tie.InvT-loop
+Inv-loop main secular time-delta r₀ i₀ r i =
+    (i ≤ N-COEFF) × (r ≡ first (λ (k : ℕ). coefficient rounded (getD main k nan) (getD secular k nan) time-delta) i ++ drop i r₀)
+
+abbrev μ-loop : tie.MeasureT-loop
+μ-loop main secular time-delta r₀ i₀ r i =
+    N-COEFF - i
+
+loop-holds : tie.Need-loop-holds Inv-loop μ-loop
+unfolding first
+loop-holds c = (search needs, refl)
+
+mul-coeff-at-t : tie.Need-mul-coeff-at-t Inv-loop μ-loop
+mul-coeff-at-t c = search needs
+
+shared-slice-read-coeff-at-t : tie.Need-shared-slice-read-coeff-at-t Inv-loop μ-loop
+shared-slice-read-coeff-at-t c = search needs
+
+mul-coeff-at-t-2 : tie.Need-mul-coeff-at-t-2 Inv-loop μ-loop
+mul-coeff-at-t-2 c = search needs
+
+shared-slice-read-coeff-at-t-2 : tie.Need-shared-slice-read-coeff-at-t-2 Inv-loop μ-loop
+shared-slice-read-coeff-at-t-2 c = search needs
+
+coeff-at-t-requires : tie.Need-coeff-at-t-requires Inv-loop μ-loop
+coeff-at-t-requires c κs = search needs
+
+mul-r : tie.Need-mul-r Inv-loop μ-loop
+mul-r c = search needs
+
+array-write-r : tie.Need-array-write-r Inv-loop μ-loop
+array-write-r c = search needs
+
+add-i : tie.Need-add-i Inv-loop μ-loop
+add-i c = search needs
+
+loop-less : tie.Need-loop-less Inv-loop μ-loop
+loop-less c = search needs
+
+loop-again : tie.Need-loop-again Inv-loop μ-loop
+loop-again c =
+    let l = c .before .before .before .before in
+    let a = l .before .before .before .args in (
+      search needs,
+      first-next (λ (k : ℕ). coefficient rounded (getD (a .main .now) k nan) (getD (a .secular .now) k nan) (a .time-delta)) (l .loop .i) (l .loop .r) _ (c .coeff-at-t .result) (search needs) (l .loop .inv .1) (c .coeff-at-t .ensures),
+    )
+
+returns : tie.Need-returns Inv-loop μ-loop
+unfolding atDate
+returns c =
+    let l = c .before in
+    let e : l .loop .i ≡ N-COEFF = omega arith in
+    simp (l .loop .inv .1, e, append-nil)
+
+pub at-date-spec : {M : Type 1} → statement M
+at-date-spec =
+    tie.close
+    (tie.spec
+    Inv-loop
+    μ-loop
+    loop-holds
+    mul-coeff-at-t
+    shared-slice-read-coeff-at-t
+    mul-coeff-at-t-2
+    shared-slice-read-coeff-at-t-2
+    coeff-at-t-requires
+    mul-r
+    array-write-r
+    add-i
+    loop-less
+    loop-again
+    returns)

@@ -1,0 +1,23 @@
+-- `synthesis::general::add_degree` meets its contract. Assumes nothing.
+use Prim.Native.Nat.{_^_}
+use native.Mathlib.Omega.{arith}
+use lib.Dec.{le→leb}
+use lib.Ieee.{inFloat}
+use mathlib.Core.Path.{refl}
+use Rattle.synthesis.proofs.GeneralSum.{lit-one}
+use Rattle.synthesis.specs.Arithmetic.{rounded}
+use Rattle.synthesis.specs.Recurrence.{lit}
+use Rattle.synthesis.specs.Code.{addDegree}
+use Rattle.synthesis.proofs.general.add_degree.Statement.{statement}
+use Rattle.synthesis.proofs.general.add_degree.Tie as tie
+
+int-to-float-t9 : tie.Need-int-to-float-t9
+unfolding inFloat
+int-to-float-t9 c = le→leb (c .before .before .before .before .before .args .n) (2 ^ 24) (omega arith)
+
+returns : tie.Need-returns
+unfolding addDegree rounded lit
+returns c = rw (← lit-one) refl
+
+pub add-degree-spec : {M : Type 1} → statement M
+add-degree-spec = tie.close (tie.spec int-to-float-t9 returns)

@@ -1,0 +1,67 @@
+-- `synthesis::sum` meets its contract: each return is a law of proofs/Checked.antt. Assumes nothing.
+use mathlib.Core.Path.{refl}
+use borrow.Author.Needs.{needs}
+use Rattle.synthesis.proofs.Checked.{refused-numbers, refused-lists, summed, answer-close, accepted-long}
+use Rattle.synthesis.proofs.sum.Statement.{statement}
+use Rattle.synthesis.proofs.sum.Tie as tie
+
+check-numbers-requires : tie.Need-check-numbers-requires
+check-numbers-requires c κs = search needs
+
+enum-known-k : tie.Need-enum-known-k
+enum-known-k c = search needs
+
+returns : tie.Need-returns
+returns c =
+    let k = c .before .before .before in
+    let e = refused-numbers _ _ (k .check-numbers .ensures) _ (c .before .k .given .1) in
+    (e, (answer-close _ _ e, (refl, refl, refl, refl)))
+
+enum-told : tie.Need-enum-told
+enum-told c = search needs
+
+check-lists-requires : tie.Need-check-lists-requires
+check-lists-requires c κs = search needs
+
+enum-known-k-2 : tie.Need-enum-known-k-2
+enum-known-k-2 c = search needs
+
+returns-2 : tie.Need-returns-2
+returns-2 c =
+    let l = c .before .before .before in
+    let o = l .before in
+    let k = o .before .before in
+    let e = refused-lists _ _ (k .check-numbers .ensures) (o .enum-told .given .1) _ (l .check-lists .ensures) _ (c .before .k2 .given .1) in
+    (e, (answer-close _ _ e, (refl, refl, refl, refl)))
+
+enum-told-2 : tie.Need-enum-told-2
+enum-told-2 c = search needs
+
+synthesize-geocentric-xyz-requires : tie.Need-synthesize-geocentric-xyz-requires
+synthesize-geocentric-xyz-requires c κs =
+    let l = c .before .before in
+    accepted-long _ _ _ _ _ (l .check-lists .ensures) (c .enum-told2 .given .1)
+
+returns-3 : tie.Need-returns-3
+returns-3 c =
+    let p = c .before in
+    let l = p .before .before in
+    let o = l .before in
+    let k = o .before .before in
+    let e = summed _ _ (k .check-numbers .ensures) (o .enum-told .given .1) _ (l .check-lists .ensures) (p .enum-told2 .given .1) _ (c .synthesize-geocentric-xyz .ensures) in
+    (e, (answer-close _ _ e, (refl, refl, refl, refl)))
+
+pub sum-spec : {M : Type 1} → statement M
+sum-spec =
+    tie.close
+    (tie.spec
+    check-numbers-requires
+    enum-known-k
+    returns
+    enum-told
+    check-lists-requires
+    enum-known-k-2
+    returns-2
+    enum-told-2
+    synthesize-geocentric-xyz-requires
+    returns-3)

@@ -1,0 +1,182 @@
+-- Demand 3 for Sum: what passed the checks is of the sizes that the bounds ask for, and each component lies within the promised distance.
+use mathlib.Core.Path.{_≡_, sym, subst}
+use mathlib.Core.List.{List, [], _∷_}
+use Prim.Native.Nat.{ℕ, zero, suc, _+_, _-_, _*_, _≤_, zero-le}
+use native.Mathlib.Nat.{add-zero, zero-add}
+use mathlib.Core.Bool.{Bool, true, false, not, _&&_, cond}
+use lib.ListN.{getD}
+use lib.IntN.{ℤ, pos, negsuc}
+use lib.Dec.{T, leb, leb→le, nltb→le, le→leb, lit≤, lit<}
+use lib.Ieee.{Float, nan, inf, fin, up, down, binary32, add, mul, lt, le, ofBits}
+use lib.Ieee.Fits.{and-l, and-r}
+use lib.Ieee.Scale.{finite}
+use Rattle.exact.specs.Tests.{circle, all-capped, between, capped}
+use Rattle.exact.specs.Sizes.{leaf, size-leaf, inverse}
+use Rattle.exact.specs.Circle.{circle-top, on-circle}
+use Rattle.synthesis.specs.Sum.{Close, Lent, at, inputs, main-cap, near-pole, nought, offset-ok, rate-cap, ratio-ok, small-sine, sum-x, sum-y, sum-z, valueOf}
+use Rattle.exact.specs.Exact.{Exact, Size, own, size}
+use Rattle.exact.specs.Ranks.{Leaf, fine}
+use Rattle.synthesis.specs.Terms.{Ok, angS, legS, powS}
+use Rattle.exact.specs.Within.{Within}
+use Rattle.synthesis.specs.Sums.{accA, pole-x-near, pole-y-near, pole-z-near, x-sum-near, y-sum-near, z-sum-near}
+use Rattle.tables.specs.Tables.{kAt, kBits, schmidtAt, schmidtBits}
+use Rattle.exact.specs.Near.{near-div, near-own}
+use Rattle.tables.specs.Degree.{place}
+use Rattle.synthesis.specs.Arithmetic.{rounded, sizes, unrounded}
+use Rattle.exact.specs.Reach.{within}
+use Rattle.synthesis.specs.Majorant.{x-majorant, y-majorant, z-majorant}
+
+-- what the checks say of what is lent
+pub record Accepted (a : Lent) : Type 0 where
+  pub colatitude : T (circle (a .sin-theta) (a .cos-theta))
+  pub longitude : T (circle (a .sin-lambda) (a .cos-lambda))
+  pub ratio : T (ratio-ok (a .ratio))
+  pub offset : T (offset-ok (a .offset))
+  pub g : T (all-capped main-cap (a .g))
+  pub h : T (all-capped main-cap (a .h))
+  pub g-dot : T (all-capped rate-cap (a .g-dot))
+  pub h-dot : T (all-capped rate-cap (a .h-dot))
+
+-- ---- every entry of a table is of size at most B, by a computed test
+unfoldable sized : ℕ → ℕ → Bool
+unfolding ofBits own
+sized B b = let x = ofBits binary32 b in finite x && leb (own x .plus + own x .minus) (B * own x .over)
+
+unfoldable all-sized : ℕ → List ℕ → Bool
+unfolding sized
+all-sized B [] = true
+all-sized B (b ∷ l) = sized B b && all-sized B l
+
+sized-at : (B : ℕ) (l : List ℕ) (k : ℕ) → T (sized B 0) → T (all-sized B l) → T (sized B (getD l k 0))
+unfolding all-sized
+sized-at B [] zero z t = z
+sized-at B [] (suc k) z t = z
+sized-at B (b ∷ l) zero z t = and-l (sized B b) (all-sized B l) t
+sized-at B (b ∷ l) (suc k) z t = sized-at B l k z (and-r (sized B b) (all-sized B l) t)
+
+sized-leaf : (B b : ℕ) → T (sized B b) → Leaf B (ofBits binary32 b)
+unfolding sized
+sized-leaf B b t =
+    let x = ofBits binary32 b in
+    let q : Bool = leb (own x .plus + own x .minus) (B * own x .over) in
+    near-own (and-l (finite x) q t) (leb→le (own x .plus + own x .minus) (B * own x .over) (and-r (finite x) q t))
+
+schmidt-ok : T (all-sized 1024 schmidtBits)
+unfolding all-sized schmidtBits
+schmidt-ok = tt
+
+ks-ok : T (all-sized 1 kBits)
+unfolding all-sized kBits
+ks-ok = tt
+
+zero-ok : (B : ℕ) → T (sized B 0)
+unfolding sized
+zero-ok B = le→leb 0 (B * 1) zero-le
+
+-- ---- sizes from the checks
+capped-at : (cap : Float) (l : List Float) (j : ℕ) → T (capped cap nought) → T (all-capped cap l) → T (capped cap (getD l j nought))
+unfolding all-capped
+capped-at cap [] zero z t = z
+capped-at cap [] (suc j) z t = z
+capped-at cap (x ∷ l) zero z t = and-l (capped cap x) (all-capped cap l) t
+capped-at cap (x ∷ l) (suc j) z t = capped-at cap l j z (and-r (capped cap x) (all-capped cap l) t)
+
+main-leaf : (x : Float) → T (capped main-cap x) → Leaf 65536 x
+unfolding capped ofBits
+main-leaf x t = size-leaf 65536 1 (pos 16) x (lit≤ tt) t
+
+rate-leaf : (x : Float) → T (capped rate-cap x) → Leaf 4096 x
+unfolding capped ofBits
+rate-leaf x t = size-leaf 4096 1 (pos 12) x (lit≤ tt) t
+
+main-nought : T (capped main-cap nought)
+unfolding capped ofBits lib.Ieee.le lib.Ieee.lt lib.Ieee.eq
+main-nought = tt
+
+rate-nought : T (capped rate-cap nought)
+unfolding capped ofBits lib.Ieee.le lib.Ieee.lt lib.Ieee.eq
+rate-nought = tt
+
+between-leaf : (B : ℕ) (s t : Bool) (m n : ℕ) (e d : ℤ) (x : Float) → m * up e ≤ B * down e → n * up d ≤ B * down d → T (between (fin s m e) (fin t n d) x) → Leaf B x
+between-leaf B s t m n e d x a b h = leaf B s t m n e d x a b (and-l (le (fin s m e) x) (le x (fin t n d)) h) (and-r (le (fin s m e) x) (le x (fin t n d)) h)
+
+ratio-leaf : (x : Float) → T (ratio-ok x) → Leaf 2 x
+unfolding ratio-ok ofBits
+ratio-leaf x t = between-leaf 2 false false 7 65 (negsuc 2) (negsuc 5) x (lit≤ tt) (lit≤ tt) t
+
+offset-leaf : (x : Float) → T (offset-ok x) → Leaf 5 x
+unfolding offset-ok ofBits
+offset-leaf x t = between-leaf 5 false false 0 5 (pos 0) (pos 0) x (lit≤ tt) (lit≤ tt) t
+
+pub circle-leaf : (s c : Float) → T (circle s c) → Leaf 2 s × Leaf 2 c
+unfolding circle ofBits
+circle-leaf s c h =
+    let q = add binary32 (mul binary32 s s) (mul binary32 c c) in
+    let f : T (finite s && finite c) = and-l (finite s && finite c) (between (fin false 1048575 (negsuc 19)) circle-top q) h in
+    let b : T (between (fin false 1048575 (negsuc 19)) circle-top q) = and-r (finite s && finite c) (between (fin false 1048575 (negsuc 19)) circle-top q) h in
+    let fs = and-l (finite s) (finite c) f in
+    let fc = and-r (finite s) (finite c) f in
+    let u = on-circle s c fs fc (and-r (le (fin false 1048575 (negsuc 19)) q) (le q circle-top) b) in
+    (near-own fs (u .0), near-own fc (u .1))
+
+circle-finite : (s c : Float) → T (circle s c) → T (finite s)
+unfolding circle
+circle-finite s c h =
+    and-l (finite s) (finite c) (and-l (finite s && finite c) (between (ofBits binary32 0x3f7ffff0) (ofBits binary32 0x3f800008) (add binary32 (mul binary32 s s) (mul binary32 c c))) h)
+
+pub ok : (a : Lent) → Accepted a → Ok (inputs a)
+unfolding inputs schmidtAt kAt
+ok a w =
+    let p = circle-leaf (a .sin-theta) (a .cos-theta) (w .colatitude) in
+    let q = circle-leaf (a .sin-lambda) (a .cos-lambda) (w .longitude) in
+    record {
+      cos-theta = p .1;
+      sin-theta = p .0;
+      sin-lambda = q .0;
+      cos-lambda = q .1;
+      ratio = ratio-leaf (a .ratio) (w .ratio);
+      offset = offset-leaf (a .offset) (w .offset);
+      g = λ n m. main-leaf (at (a .g) n m) (capped-at main-cap (a .g) (place n m - 1) main-nought (w .g));
+      h = λ n m. main-leaf (at (a .h) n m) (capped-at main-cap (a .h) (place n m - 1) main-nought (w .h));
+      g-dot = λ n m. rate-leaf (at (a .g-dot) n m) (capped-at rate-cap (a .g-dot) (place n m - 1) rate-nought (w .g-dot));
+      h-dot = λ n m. rate-leaf (at (a .h-dot) n m) (capped-at rate-cap (a .h-dot) (place n m - 1) rate-nought (w .h-dot));
+      S = λ n m. sized-leaf 1024 (getD schmidtBits (place n m) 0) (sized-at 1024 schmidtBits (place n m) (zero-ok 1024) schmidt-ok);
+      K = λ n m. sized-leaf 1 (getD kBits (place n m) 0) (sized-at 1 kBits (place n m) (zero-ok 1) ks-ok);
+    }
+
+-- ---- the distance of each component
+abs-above : (x : Float) → T (finite x) → T (not (small-sine x)) → 8589935 * 1 * own x .over ≤ (own x .plus + own x .minus) * down (negsuc 32)
+unfolding own lt small-sine ofBits
+abs-above nan t h = absurd t
+abs-above (inf s) t h = absurd t
+abs-above (fin false m e) t h = subst (λ (z : ℕ). 8589935 * 1 * down e ≤ z * down (negsuc 32)) (sym (add-zero (m * up e))) (nltb→le (m * up e * down (negsuc 32)) (8589935 * 1 * down e) h)
+abs-above (fin true m e) t h = subst (λ (z : ℕ). 8589935 * 1 * down e ≤ z * down (negsuc 32)) (sym (zero-add (m * up e))) (nltb→le (m * up e * down (negsuc 32)) (8589935 * 1 * down e) h)
+
+pub either : (b : Bool) (f g : Float) (x y : Exact) → (T b → Within f x (size x)) → (T (not b) → Within g y (size y)) → Within (cond b f g) (cond b x y) (size (cond b x y))
+either true f g x y p q = p tt
+either false f g x y p q = q tt
+
+pub majored : {f : Float} {x : Exact} {M : Size} → size x ≡ M → Within f x (size x) → Within f x M
+majored {f} {x} e w = subst (λ (M : Size). Within f x M) e w
+
+module _ (a : Lent) (w : Accepted a) where
+  sum-x-within : Within (sum-x rounded a) (sum-x unrounded a) (sum-x sizes a)
+  unfolding accA legS angS powS
+  sum-x-within = majored (x-majorant a) (either (near-pole a) _ _ _ _ (λ t. within (pole-x-near (inputs a) (ok a w)) (lit≤ tt) (lit≤ tt)) (λ t. within (x-sum-near (inputs a) (ok a w)) (lit≤ tt) (lit≤ tt)))
+
+  sum-z-within : Within (sum-z rounded a) (sum-z unrounded a) (sum-z sizes a)
+  unfolding accA legS angS powS
+  sum-z-within = majored (z-majorant a) (either (near-pole a) _ _ _ _ (λ t. within (pole-z-near (inputs a) (ok a w)) (lit≤ tt) (lit≤ tt)) (λ t. within (z-sum-near (inputs a) (ok a w)) (lit≤ tt) (lit≤ tt)))
+
+  sine-finite : T (finite (a .sin-theta))
+  sine-finite = circle-finite (a .sin-theta) (a .cos-theta) (w .colatitude)
+
+  -- 1 / sine is at most 1024 in size on the general path
+  sum-y-within : Within (sum-y rounded a) (sum-y unrounded a) (sum-y sizes a)
+  unfolding accA legS angS powS rounded unrounded
+  sum-y-within = majored (y-majorant a) (either (near-pole a) _ _ _ _ (λ t. within (pole-y-near (inputs a) (ok a w)) (lit≤ tt) (lit≤ tt))
+      (λ t. let b = inverse 1024 8589935 (negsuc 32) (a .sin-theta) (lit< tt) (lit≤ tt) sine-finite (abs-above (a .sin-theta) sine-finite t) in
+      within (near-div 1024 (a .sin-theta) (y-sum-near (inputs a) (ok a w)) sine-finite (b .0) (b .1) (fine tt tt tt)) (lit≤ tt) (lit≤ tt)))
+
+  pub close : Close a (valueOf a)
+  close = record { x = sum-x-within; y = sum-y-within; z = sum-z-within }

@@ -1,0 +1,82 @@
+// The entry Sum: X', Y and Z' of the model at a geocentric place and a date, in the crate's sign.
+use checks::Verdict;
+use checks::check_lists;
+use checks::check_numbers;
+use paths::synthesize_geocentric_xyz;
+use refusals::Refusal;
+ghost use mathlib.Core.Path.{_≡_};
+ghost use Rattle.synthesis.specs.Sum.{sumSays, said, Close};
+ghost use Rattle.synthesis.specs.Code.{lent};
+
+mod angles;
+mod checks;
+mod date;
+mod general;
+mod near_pole;
+mod paths;
+mod rows;
+
+// The orders of a row, and the entries of a list.
+const M_LEN: usize = tables::N_MAX + 1;
+
+const N_COEFF: usize = tables::N_MAX * (tables::N_MAX + 3) / 2;
+
+// The pair of the geocentric colatitude.
+pub struct Colatitude {
+    pub cos: f32,
+    pub sin: f32,
+}
+
+// The pair of the longitude.
+pub struct Longitude {
+    pub sin: f32,
+    pub cos: f32,
+}
+
+// X', Y and Z' in nT.
+pub struct Xyz {
+    pub x: f32,
+    pub y: f32,
+    pub z: f32,
+}
+
+pub enum SumAnswer {
+    Sum(Xyz),
+    Refused(Refusal),
+}
+
+// Refusals 9, 3, 10, 11, 6, 7, then the answer. `answer` is demands 1 and 2, `distance` demand 3;
+// the lent slices keep what they hold.
+pub fn sum(
+    colatitude: Colatitude,
+    longitude: Longitude,
+    ratio: f32,
+    offset: f32,
+    g: &[f32],
+    h: &[f32],
+    g_dot: &[f32],
+    h_dot: &[f32],
+) -> SumAnswer
+    ensures answer { λ r. ⌜ said r ≡ sumSays (lent (colatitude .cos) (colatitude .sin) (longitude .sin) (longitude .cos) ratio offset (now (g .entry)) (now (h .entry)) (now («g_dot» .entry)) (now («h_dot» .entry))) ⌝ }
+    ensures distance { λ r. ⌜ ((v : Xyz) → r ≡ SumAnswer.Sum v → Close (lent (colatitude .cos) (colatitude .sin) (longitude .sin) (longitude .cos) ratio offset (now (g .entry)) (now (h .entry)) (now («g_dot» .entry)) (now («h_dot» .entry))) v) ⌝ }
+    ensures kept { λ _. ⌜ (now (g .exit) ≡ now (g .entry)) × (now (h .exit) ≡ now (h .entry)) × (now («g_dot» .exit) ≡ now («g_dot» .entry)) × (now («h_dot» .exit) ≡ now («h_dot» .entry)) ⌝ }
+{
+    if let Verdict::Refused(k) = check_numbers(colatitude, longitude, ratio, offset) {
+        return SumAnswer::Refused(k);
+    }
+    if let Verdict::Refused(k) = check_lists(g, h, g_dot, h_dot) {
+        return SumAnswer::Refused(k);
+    }
+    SumAnswer::Sum(synthesize_geocentric_xyz(
+        colatitude.cos,
+        colatitude.sin,
+        longitude.sin,
+        longitude.cos,
+        ratio,
+        g,
+        h,
+        g_dot,
+        h_dot,
+        offset,
+    ))
+}

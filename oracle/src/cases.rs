@@ -1,0 +1,166 @@
+//! Cases from a seed. Some are planned: each kind has a list of every special value of each part
+//! alone, and of every pair of special values of two parts, so every refusal comes alone and beside
+//! every other. Half of the cases come from that list until it is through, then one in eight. The
+//! others are random. Special sets have a list of their own, and beside each stand cases with one
+//! special part.
+mod damage;
+mod lists;
+mod pairs;
+mod places;
+mod rng;
+mod strengths;
+mod values;
+
+use crate::replay::Replay;
+use places::DAYS;
+use rng::{plans, singles, Rng, Walk};
+use std::io::{self, Write};
+use strengths::{STRENGTHS, WRAPS};
+use values::Pools;
+
+/// What a case asks for. `Bad` is a damaged line: most of them cannot be read.
+#[derive(Copy, Clone, Debug, PartialEq)]
+pub enum Kind {
+    Sum,
+    Field,
+    Epoch,
+    Str,
+    Gv,
+    Sqrt,
+    Bad,
+}
+
+/// Every kind, its name on the command line, and its share of a mixed list.
+pub const KINDS: [(Kind, &str, usize); 7] = [
+    (Kind::Sum, "SUM", 6),
+    (Kind::Field, "FIELD", 6),
+    (Kind::Epoch, "EPOCH", 2),
+    (Kind::Str, "STR", 3),
+    (Kind::Gv, "GV", 2),
+    (Kind::Sqrt, "SQRT", 2),
+    (Kind::Bad, "BAD", 1),
+];
+
+pub struct Generator {
+    rng: Rng,
+    pools: Pools,
+    replay: Replay,
+    /// How many cases more the set in force serves, whether it is a special one, and which of the
+    /// published ones it is.
+    serves: usize,
+    special: bool,
+    published: Option<usize>,
+    /// The walk over the planned list of each kind, in the order of `Kind`.
+    walks: [Walk; 7],
+    /// The walks over the special sets, over the special parts beside them, and over all days with
+    /// each published set.
+    set_walk: Walk,
+    sum_singles: Walk,
+    field_singles: Walk,
+    day_walks: [Walk; 2],
+    /// The number of special values of each part: colatitude, longitude, ratio, offset.
+    sum_ways: [usize; 4],
+    /// Height, latitude, longitude, year, day.
+    field_ways: [usize; 5],
+    /// Year, day.
+    epoch_ways: [usize; 2],
+    /// X, Y, Z.
+    str_ways: [usize; 3],
+    /// Latitude, longitude, declination.
+    gv_ways: [usize; 3],
+}
+
+impl Generator {
+    pub fn new(seed: u64) -> Generator {
+        let mut rng = Rng::new(seed);
+        let pools = Pools::new();
+        let sum_ways = [
+            pairs::COLATITUDES,
+            pairs::LONGITUDES,
+            pools.ratio.len(),
+            pools.offset.len(),
+        ];
+        let field_ways = [
+            pools.height.len(),
+            pairs::LATITUDES,
+            pairs::LONGITUDES,
+            pools.year.len(),
+            pools.day.len(),
+        ];
+        let epoch_ways = [pools.year.len(), pools.day.len()];
+        let str_ways = [pools.component.len(); 3];
+        let gv_ways = [
+            pools.latitude_deg.len(),
+            pools.longitude_deg.len(),
+            pools.declination_deg.len(),
+        ];
+        let totals = [
+            plans(&sum_ways),
+            plans(&field_ways),
+            plans(&epoch_ways) + DAYS,
+            plans(&str_ways) + STRENGTHS,
+            plans(&gv_ways) + WRAPS,
+            pools.root.len(),
+            1,
+        ];
+        Generator {
+            walks: totals.map(|total| Walk::new(total, &mut rng)),
+            set_walk: Walk::new(lists::SETS + pools.epoch_year.len(), &mut rng),
+            sum_singles: Walk::new(singles(&sum_ways), &mut rng),
+            field_singles: Walk::new(singles(&field_ways), &mut rng),
+            day_walks: [DAYS; 2].map(|total| Walk::new(total, &mut rng)),
+            rng,
+            pools,
+            replay: Replay::default(),
+            serves: 0,
+            special: false,
+            published: None,
+            sum_ways,
+            field_ways,
+            epoch_ways,
+            str_ways,
+            gv_ways,
+        }
+    }
+
+    /// Writes one case line of a kind, and before it a SET line where another set's turn has come.
+    pub fn line(&mut self, kind: Kind, out: &mut Vec<u8>) {
+        let walk = &mut self.walks[kind as usize];
+        let planned = self.rng.once_in(if walk.is_through() { 8 } else { 2 });
+        let place = if planned { Some(walk.next()) } else { None };
+        let case = match kind {
+            Kind::Sum => self.sum_case(place, out),
+            Kind::Field => self.field_case(place, out),
+            Kind::Epoch => self.epoch_case(place),
+            Kind::Str => self.str_case(place),
+            Kind::Gv => self.gv_case(place),
+            Kind::Sqrt => self.sqrt_case(place),
+            Kind::Bad => return damage::bad_line(self, out),
+        };
+        self.replay.case(&case, out);
+    }
+}
+
+/// Writes `count` case lines of the kinds, mixed. SET lines come as needed and do not count.
+pub fn write_cases(
+    seed: u64,
+    count: u64,
+    kinds: &[Kind],
+    output: &mut impl Write,
+) -> io::Result<()> {
+    let mut generator = Generator::new(seed);
+    let mut choice = Vec::new();
+    for (kind, _, share) in KINDS {
+        if kinds.contains(&kind) {
+            choice.extend(vec![kind; share]);
+        }
+    }
+    let mut out = Vec::new();
+    for _ in 0..count {
+        out.clear();
+        let kind = generator.rng.pick(&choice);
+        generator.line(kind, &mut out);
+        output.write_all(&out)?;
+    }
+    output.flush()
+}

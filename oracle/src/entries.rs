@@ -1,0 +1,265 @@
+//! The public entries, with document 01's refusals in document 01's order.
+use crate::field::{
+    field_at_offset, synthesize_geocentric_xyz, GeomagneticField, WarningZone, MAX_HEIGHT_KM,
+    MAX_HEIGHT_M, MAX_LATITUDE_DEG, MAX_LONGITUDE_DEG, MIN_HEIGHT_KM, MIN_HEIGHT_M,
+    MIN_LATITUDE_DEG, MIN_LONGITUDE_DEG,
+};
+use crate::models::{
+    date_to_epoch_year, days_in_year, error_model_by_epoch_year, years_since_epoch, WmmModel,
+    BUNDLED_MODELS_VALIDITY_RANGE,
+};
+use crate::synthesis::N_COEFF;
+
+/// Why an entry gives no result. The numbers are document 01's.
+#[derive(Copy, Clone, Debug, PartialEq)]
+pub enum Refusal {
+    /// 1: the two limits, in kilometres.
+    Height { min_km: f32, max_km: f32 },
+    /// 2
+    Latitude,
+    /// 3
+    Longitude,
+    /// 4
+    DayOfYear,
+    /// 5: the first and the last day that a set answers for, as (year, day of year).
+    EpochYear { first: (i32, i32), last: (i32, i32) },
+    /// 6
+    Length,
+    /// 7: the list (0 g, 1 h, 2 g_dot, 3 h_dot) and the index from 0.
+    Coefficient { list: usize, index: usize },
+    /// 8: the epoch years of the day and of the set.
+    OtherEpoch { of_day: i32, of_set: i32 },
+    /// 9
+    Colatitude,
+    /// 10
+    Ratio,
+    /// 11
+    Offset,
+    /// 12
+    Unusable,
+}
+
+/// A lent set: an epoch year and four lists of any length, g, h, g_dot, h_dot.
+#[derive(Clone, Debug, Default, PartialEq)]
+pub struct Set {
+    pub epoch_year: i32,
+    pub lists: [Vec<f32>; 4],
+}
+
+impl Set {
+    /// A published set in the lent form.
+    pub fn of(model: &WmmModel) -> Set {
+        Set {
+            epoch_year: model.epoch_year,
+            lists: [
+                model.g.to_vec(),
+                model.h.to_vec(),
+                model.g_dot.to_vec(),
+                model.h_dot.to_vec(),
+            ],
+        }
+    }
+}
+
+/// Caps on an entry's size, list by list: nT for g and h, nT a year for the rates.
+pub const CAPS: [f32; 4] = [65536.0, 65536.0, 4096.0, 4096.0];
+/// 2^-20, by which a pair may miss the circle.
+pub const CIRCLE_SLACK: f32 = 1.0 / 1048576.0;
+pub const MIN_RATIO: f32 = 0.875;
+pub const MAX_RATIO: f32 = 1.015625;
+pub const MAX_OFFSET: f32 = 5.0;
+/// 2^60, the largest size of a component.
+pub const MAX_COMPONENT: f32 = 1152921504606846976.0;
+pub const MAX_DECLINATION_DEG: f32 = 180.0;
+
+/// Finite, and in the range with both ends. A NaN and an infinity are in no range.
+pub fn within(x: f32, low: f32, high: f32) -> bool {
+    x.is_finite() && low <= x && x <= high
+}
+
+/// Off the circle: a member not finite, or s*s + c*c (each step rounded) too far from 1.
+pub fn off_the_circle(s: f32, c: f32) -> bool {
+    if !s.is_finite() || !c.is_finite() {
+        return true;
+    }
+    let sum = s * s + c * c;
+    !within(sum, 1.0 - CIRCLE_SLACK, 1.0 + CIRCLE_SLACK)
+}
+
+fn outside_of_validity_range() -> Refusal {
+    let (first, last) = BUNDLED_MODELS_VALIDITY_RANGE;
+    Refusal::EpochYear { first, last }
+}
+
+/// Refusal 6, then refusal 7 at the first bad place. Gives the four lists, each 90 long.
+fn check_lists(lists: &[Vec<f32>; 4]) -> Result<[&[f32; N_COEFF]; 4], Refusal> {
+    let whole = |i: usize| <&[f32; N_COEFF]>::try_from(&lists[i][..]).map_err(|_| Refusal::Length);
+    let whole = [whole(0)?, whole(1)?, whole(2)?, whole(3)?];
+    for (list, entries) in whole.iter().enumerate() {
+        for (index, entry) in entries.iter().enumerate() {
+            if !within(*entry, -CAPS[list], CAPS[list]) {
+                return Err(Refusal::Coefficient { list, index });
+            }
+        }
+    }
+    Ok(whole)
+}
+
+/// Field: X, Y, Z in nT with the error record. Refusals 1, 2, 3, 4, 5, 6, 7, 8.
+#[allow(clippy::too_many_arguments)]
+pub fn field(
+    height: f32,
+    sin_phi: f32,
+    cos_phi: f32,
+    sin_lambda: f32,
+    cos_lambda: f32,
+    year: i32,
+    day: i32,
+    set: &Set,
+) -> Result<GeomagneticField, Refusal> {
+    if !within(height, MIN_HEIGHT_M, MAX_HEIGHT_M) {
+        return Err(Refusal::Height {
+            min_km: MIN_HEIGHT_KM,
+            max_km: MAX_HEIGHT_KM,
+        });
+    }
+    if off_the_circle(sin_phi, cos_phi) || cos_phi < -CIRCLE_SLACK {
+        return Err(Refusal::Latitude);
+    }
+    if off_the_circle(sin_lambda, cos_lambda) {
+        return Err(Refusal::Longitude);
+    }
+    let (epoch_year, time_delta) = epoch(year, day)?;
+    if error_model_by_epoch_year(set.epoch_year).is_none() {
+        return Err(outside_of_validity_range());
+    }
+    let [g, h, g_dot, h_dot] = check_lists(&set.lists)?;
+    if set.epoch_year != epoch_year {
+        return Err(Refusal::OtherEpoch {
+            of_day: epoch_year,
+            of_set: set.epoch_year,
+        });
+    }
+    let error_model =
+        *error_model_by_epoch_year(epoch_year).ok_or_else(outside_of_validity_range)?;
+    let (x, y, z) = field_at_offset(
+        height, sin_phi, cos_phi, sin_lambda, cos_lambda, g, h, g_dot, h_dot, time_delta,
+    );
+    Ok(GeomagneticField {
+        x,
+        y,
+        z,
+        error_model,
+    })
+}
+
+/// Sum: X', Y, Z' in the crate's sign. Refusals 9, 3, 10, 11, 6, 7.
+pub fn sum(
+    cos_theta: f32,
+    sin_theta: f32,
+    sin_lambda: f32,
+    cos_lambda: f32,
+    ratio: f32,
+    offset: f32,
+    lists: &[Vec<f32>; 4],
+) -> Result<(f32, f32, f32), Refusal> {
+    if off_the_circle(sin_theta, cos_theta) {
+        return Err(Refusal::Colatitude);
+    }
+    if off_the_circle(sin_lambda, cos_lambda) {
+        return Err(Refusal::Longitude);
+    }
+    if !within(ratio, MIN_RATIO, MAX_RATIO) {
+        return Err(Refusal::Ratio);
+    }
+    if !within(offset, 0.0, MAX_OFFSET) {
+        return Err(Refusal::Offset);
+    }
+    let [g, h, g_dot, h_dot] = check_lists(lists)?;
+    Ok(synthesize_geocentric_xyz(
+        cos_theta, sin_theta, sin_lambda, cos_lambda, ratio, g, h, g_dot, h_dot, offset,
+    ))
+}
+
+/// Epoch: epoch year and offset of a day. Refusals 4, 5.
+pub fn epoch(year: i32, day: i32) -> Result<(i32, f32), Refusal> {
+    if day < 1 || day > days_in_year(year) {
+        return Err(Refusal::DayOfYear);
+    }
+    let epoch_year = date_to_epoch_year(year);
+    if error_model_by_epoch_year(epoch_year).is_none() {
+        return Err(outside_of_validity_range());
+    }
+    Ok((epoch_year, years_since_epoch(year, day, epoch_year)))
+}
+
+/// Refusal 12, by any of X, Y and Z.
+fn check_components(field: &GeomagneticField) -> Result<(), Refusal> {
+    let usable = |x: f32| within(x, -MAX_COMPONENT, MAX_COMPONENT);
+    if usable(field.x) && usable(field.y) && usable(field.z) {
+        Ok(())
+    } else {
+        Err(Refusal::Unusable)
+    }
+}
+
+/// H. Refusal 12.
+pub fn horizontal(field: &GeomagneticField) -> Result<f32, Refusal> {
+    check_components(field)?;
+    Ok(field.h())
+}
+
+/// F. Refusal 12.
+pub fn total(field: &GeomagneticField) -> Result<f32, Refusal> {
+    check_components(field)?;
+    Ok(field.f())
+}
+
+/// Warning zone, if there is one. Refusal 12.
+pub fn zone(field: &GeomagneticField) -> Result<Option<WarningZone>, Refusal> {
+    check_components(field)?;
+    Ok(field.declination_warning())
+}
+
+/// Uncertainty of declination by the figures of the lent year, whatever the record holds.
+/// Refusals 5, 12.
+pub fn uncertainty(field: &GeomagneticField, epoch_year: i32) -> Result<f32, Refusal> {
+    let error_model =
+        *error_model_by_epoch_year(epoch_year).ok_or_else(outside_of_validity_range)?;
+    check_components(field)?;
+    let of_that_year = GeomagneticField {
+        error_model,
+        ..*field
+    };
+    Ok(of_that_year.declination_uncertainty())
+}
+
+/// Grid variation, or `None` where there is none. Refusals 2, 3, 12, before "none".
+pub fn grid_variation(
+    latitude_deg: f32,
+    longitude_deg: f32,
+    declination_deg: f32,
+) -> Result<Option<f32>, Refusal> {
+    if !within(latitude_deg, MIN_LATITUDE_DEG, MAX_LATITUDE_DEG) {
+        return Err(Refusal::Latitude);
+    }
+    if !within(longitude_deg, MIN_LONGITUDE_DEG, MAX_LONGITUDE_DEG) {
+        return Err(Refusal::Longitude);
+    }
+    if !within(declination_deg, -MAX_DECLINATION_DEG, MAX_DECLINATION_DEG) {
+        return Err(Refusal::Unusable);
+    }
+    Ok(crate::field::grid_variation(
+        latitude_deg,
+        longitude_deg,
+        declination_deg,
+    ))
+}
+
+/// The square root: +inf gives +inf and -0 gives -0. Refusal 12 for NaN and below zero.
+pub fn square_root(x: f32) -> Result<f32, Refusal> {
+    if x.is_nan() || x < 0.0 {
+        return Err(Refusal::Unusable);
+    }
+    Ok(x.sqrt())
+}

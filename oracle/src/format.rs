@@ -1,0 +1,313 @@
+//! The case lines: reading and writing. README.md has the whole rule.
+//! A float is the 8 hex digits of its bits. Years, days, epochs and counts are decimal.
+use crate::entries::{Refusal, Set};
+
+/// The mark between a question and its answer.
+pub const MARK: &[u8] = b" = ";
+/// The answer to a line that cannot be read.
+pub const MALFORMED: &[u8] = b"malformed";
+/// The longest list that a SET line can say.
+pub const MAX_COUNT: usize = 128;
+
+/// One question.
+#[derive(Copy, Clone, Debug, PartialEq)]
+pub enum Case {
+    Sum {
+        cos_theta: f32,
+        sin_theta: f32,
+        sin_lambda: f32,
+        cos_lambda: f32,
+        ratio: f32,
+        offset: f32,
+    },
+    Field {
+        height: f32,
+        sin_phi: f32,
+        cos_phi: f32,
+        sin_lambda: f32,
+        cos_lambda: f32,
+        year: i32,
+        day: i32,
+    },
+    Epoch {
+        year: i32,
+        day: i32,
+    },
+    Str {
+        x: f32,
+        y: f32,
+        z: f32,
+    },
+    Gv {
+        latitude_deg: f32,
+        longitude_deg: f32,
+        declination_deg: f32,
+    },
+    Sqrt {
+        x: f32,
+    },
+}
+
+/// The words of a line. Exactly one space stands between two words.
+struct Words<'a> {
+    /// What is left; `None` after the last word.
+    rest: Option<&'a [u8]>,
+}
+
+impl<'a> Words<'a> {
+    fn of(text: &'a [u8]) -> Words<'a> {
+        Words { rest: Some(text) }
+    }
+
+    fn word(&mut self) -> Option<&'a [u8]> {
+        let text = self.rest?;
+        match text.iter().position(|byte| *byte == b' ') {
+            Some(at) => {
+                self.rest = Some(&text[at + 1..]);
+                Some(&text[..at])
+            }
+            None => {
+                self.rest = None;
+                Some(text)
+            }
+        }
+    }
+
+    /// Exactly 8 hex digits, small or capital.
+    fn float(&mut self) -> Option<f32> {
+        let word = self.word()?;
+        if word.len() != 8 {
+            return None;
+        }
+        let mut bits = 0;
+        for byte in word {
+            bits = bits * 16 + char::from(*byte).to_digit(16)?;
+        }
+        Some(f32::from_bits(bits))
+    }
+
+    /// 1 to 10 digits after an optional '-', in the range of i32.
+    fn int(&mut self) -> Option<i32> {
+        let word = self.word()?;
+        let (minus, digits) = match word.strip_prefix(b"-") {
+            Some(digits) => (true, digits),
+            None => (false, word),
+        };
+        let size = decimal(digits, 10)?;
+        i32::try_from(if minus { -size } else { size }).ok()
+    }
+
+    /// 1 to 3 digits, 0 to 128.
+    fn count(&mut self) -> Option<usize> {
+        let count = decimal(self.word()?, 3)? as usize;
+        if count <= MAX_COUNT {
+            Some(count)
+        } else {
+            None
+        }
+    }
+
+    fn list(&mut self) -> Option<Vec<f32>> {
+        let count = self.count()?;
+        let mut list = Vec::with_capacity(count);
+        for _ in 0..count {
+            list.push(self.float()?);
+        }
+        Some(list)
+    }
+
+    /// The value, if no word is left.
+    fn end<T>(&self, value: T) -> Option<T> {
+        match self.rest {
+            None => Some(value),
+            Some(_) => None,
+        }
+    }
+}
+
+/// The value of 1 to `most` decimal digits.
+fn decimal(digits: &[u8], most: usize) -> Option<i64> {
+    if digits.is_empty() || digits.len() > most {
+        return None;
+    }
+    let mut value = 0;
+    for byte in digits {
+        value = value * 10 + i64::from(char::from(*byte).to_digit(10)?);
+    }
+    Some(value)
+}
+
+/// Reads a question: a line up to its mark.
+pub fn parse_case(question: &[u8]) -> Option<Case> {
+    let mut words = Words::of(question);
+    let case = match words.word()? {
+        b"SUM" => Case::Sum {
+            cos_theta: words.float()?,
+            sin_theta: words.float()?,
+            sin_lambda: words.float()?,
+            cos_lambda: words.float()?,
+            ratio: words.float()?,
+            offset: words.float()?,
+        },
+        b"FIELD" => Case::Field {
+            height: words.float()?,
+            sin_phi: words.float()?,
+            cos_phi: words.float()?,
+            sin_lambda: words.float()?,
+            cos_lambda: words.float()?,
+            year: words.int()?,
+            day: words.int()?,
+        },
+        b"EPOCH" => Case::Epoch {
+            year: words.int()?,
+            day: words.int()?,
+        },
+        b"STR" => Case::Str {
+            x: words.float()?,
+            y: words.float()?,
+            z: words.float()?,
+        },
+        b"GV" => Case::Gv {
+            latitude_deg: words.float()?,
+            longitude_deg: words.float()?,
+            declination_deg: words.float()?,
+        },
+        b"SQRT" => Case::Sqrt { x: words.float()? },
+        _ => return None,
+    };
+    words.end(case)
+}
+
+/// Reads a SET line. It has no mark.
+pub fn parse_set(line: &[u8]) -> Option<Set> {
+    let mut words = Words::of(line);
+    if words.word()? != b"SET" {
+        return None;
+    }
+    let set = Set {
+        epoch_year: words.int()?,
+        lists: [words.list()?, words.list()?, words.list()?, words.list()?],
+    };
+    words.end(set)
+}
+
+/// Writes a space and the 8 hex digits of a float.
+pub fn put_float(out: &mut Vec<u8>, x: f32) {
+    const DIGITS: &[u8; 16] = b"0123456789abcdef";
+    let bits = x.to_bits();
+    out.push(b' ');
+    for place in (0..8).rev() {
+        out.push(DIGITS[(bits >> (4 * place)) as usize % 16]);
+    }
+}
+
+/// Writes a space and a decimal number.
+pub fn put_int(out: &mut Vec<u8>, value: i32) {
+    out.push(b' ');
+    out.extend_from_slice(value.to_string().as_bytes());
+}
+
+fn put_floats(out: &mut Vec<u8>, floats: &[f32]) {
+    for x in floats {
+        put_float(out, *x);
+    }
+}
+
+/// Writes a question, with no mark.
+pub fn put_case(out: &mut Vec<u8>, case: &Case) {
+    match *case {
+        Case::Sum {
+            cos_theta,
+            sin_theta,
+            sin_lambda,
+            cos_lambda,
+            ratio,
+            offset,
+        } => {
+            out.extend_from_slice(b"SUM");
+            put_floats(out, &[cos_theta, sin_theta, sin_lambda, cos_lambda]);
+            put_floats(out, &[ratio, offset]);
+        }
+        Case::Field {
+            height,
+            sin_phi,
+            cos_phi,
+            sin_lambda,
+            cos_lambda,
+            year,
+            day,
+        } => {
+            out.extend_from_slice(b"FIELD");
+            put_floats(out, &[height, sin_phi, cos_phi, sin_lambda, cos_lambda]);
+            put_int(out, year);
+            put_int(out, day);
+        }
+        Case::Epoch { year, day } => {
+            out.extend_from_slice(b"EPOCH");
+            put_int(out, year);
+            put_int(out, day);
+        }
+        Case::Str { x, y, z } => {
+            out.extend_from_slice(b"STR");
+            put_floats(out, &[x, y, z]);
+        }
+        Case::Gv {
+            latitude_deg,
+            longitude_deg,
+            declination_deg,
+        } => {
+            out.extend_from_slice(b"GV");
+            put_floats(out, &[latitude_deg, longitude_deg, declination_deg]);
+        }
+        Case::Sqrt { x } => {
+            out.extend_from_slice(b"SQRT");
+            put_float(out, x);
+        }
+    }
+}
+
+/// Writes a SET line, with no newline.
+pub fn put_set(out: &mut Vec<u8>, set: &Set) {
+    out.extend_from_slice(b"SET");
+    put_int(out, set.epoch_year);
+    for list in &set.lists {
+        put_int(out, list.len() as i32);
+        put_floats(out, list);
+    }
+}
+
+/// Writes a refusal: its number, then what it carries.
+pub fn put_refusal(out: &mut Vec<u8>, refusal: &Refusal) {
+    let number: &[u8] = match refusal {
+        Refusal::Height { .. } => b"1",
+        Refusal::Latitude => b"2",
+        Refusal::Longitude => b"3",
+        Refusal::DayOfYear => b"4",
+        Refusal::EpochYear { .. } => b"5",
+        Refusal::Length => b"6",
+        Refusal::Coefficient { .. } => b"7",
+        Refusal::OtherEpoch { .. } => b"8",
+        Refusal::Colatitude => b"9",
+        Refusal::Ratio => b"10",
+        Refusal::Offset => b"11",
+        Refusal::Unusable => b"12",
+    };
+    out.extend_from_slice(number);
+    match *refusal {
+        Refusal::Height { min_km, max_km } => put_floats(out, &[min_km, max_km]),
+        Refusal::EpochYear { first, last } => {
+            for part in [first.0, first.1, last.0, last.1] {
+                put_int(out, part);
+            }
+        }
+        Refusal::Coefficient { list, index } => {
+            put_int(out, list as i32);
+            put_int(out, index as i32);
+        }
+        Refusal::OtherEpoch { of_day, of_set } => {
+            put_int(out, of_day);
+            put_int(out, of_set);
+        }
+        _ => {}
+    }
+}

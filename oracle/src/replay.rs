@@ -1,0 +1,207 @@
+//! Answers case lines as the program `replay` does: each line is written back up to its mark, with
+//! the answer after it. A right list of cases comes back as it went in.
+use crate::entries::{
+    epoch, field, grid_variation, horizontal, square_root, sum, total, uncertainty, zone, Refusal,
+    Set,
+};
+use crate::field::{GeomagneticField, WarningZone};
+use crate::format::{
+    parse_case, parse_set, put_case, put_float, put_int, put_refusal, put_set, Case, MALFORMED,
+    MARK,
+};
+use crate::models::WMM_ERROR_MODELS;
+use std::io::{self, BufRead, Write};
+
+/// The longest line that can be read, in bytes without its newline.
+pub const LONGEST: usize = 8191;
+/// How much of a longer line is written back.
+pub const SHOWN: usize = 64;
+
+/// The set that is in force. At first: epoch 0 and four empty lists.
+#[derive(Default)]
+pub struct Replay {
+    pub set: Set,
+}
+
+fn mark_in(line: &[u8]) -> Option<usize> {
+    line.windows(MARK.len()).position(|part| part == MARK)
+}
+
+impl Replay {
+    /// Answers one line, given without its newline. Writes one line, with its newline.
+    pub fn line(&mut self, line: &[u8], out: &mut Vec<u8>) {
+        if line.len() > LONGEST {
+            malformed(&line[..SHOWN], out);
+            return;
+        }
+        match mark_in(line) {
+            Some(at) => self.question(&line[..at], out),
+            None => match parse_set(line) {
+                Some(set) => {
+                    self.set = set;
+                    out.extend_from_slice(line);
+                    out.push(b'\n');
+                }
+                None => self.question(line, out),
+            },
+        }
+    }
+
+    fn question(&self, question: &[u8], out: &mut Vec<u8>) {
+        match parse_case(question) {
+            Some(case) => {
+                out.extend_from_slice(question);
+                out.extend_from_slice(MARK);
+                put_answer(out, &case, &self.set);
+                out.push(b'\n');
+            }
+            None => malformed(question, out),
+        }
+    }
+
+    /// Writes the line of a case, with its answer.
+    pub fn case(&self, case: &Case, out: &mut Vec<u8>) {
+        put_case(out, case);
+        out.extend_from_slice(MARK);
+        put_answer(out, case, &self.set);
+        out.push(b'\n');
+    }
+
+    /// Takes a set, and writes its line.
+    pub fn take(&mut self, set: Set, out: &mut Vec<u8>) {
+        put_set(out, &set);
+        out.push(b'\n');
+        self.set = set;
+    }
+}
+
+fn malformed(shown: &[u8], out: &mut Vec<u8>) {
+    out.extend_from_slice(shown);
+    out.extend_from_slice(MARK);
+    out.extend_from_slice(MALFORMED);
+    out.push(b'\n');
+}
+
+/// Writes the answer to a case: 0 and the result, or the refusal.
+pub fn put_answer(out: &mut Vec<u8>, case: &Case, set: &Set) {
+    let start = out.len();
+    out.push(b'0');
+    if let Err(refusal) = put_result(out, case, set) {
+        out.truncate(start);
+        put_refusal(out, &refusal);
+    }
+}
+
+fn put_result(out: &mut Vec<u8>, case: &Case, set: &Set) -> Result<(), Refusal> {
+    match *case {
+        Case::Sum {
+            cos_theta,
+            sin_theta,
+            sin_lambda,
+            cos_lambda,
+            ratio,
+            offset,
+        } => {
+            let (x_prime, y, z_prime) = sum(
+                cos_theta, sin_theta, sin_lambda, cos_lambda, ratio, offset, &set.lists,
+            )?;
+            put_float(out, x_prime);
+            put_float(out, y);
+            put_float(out, z_prime);
+        }
+        Case::Field {
+            height,
+            sin_phi,
+            cos_phi,
+            sin_lambda,
+            cos_lambda,
+            year,
+            day,
+        } => {
+            let field = field(
+                height, sin_phi, cos_phi, sin_lambda, cos_lambda, year, day, set,
+            )?;
+            put_float(out, field.x);
+            put_float(out, field.y);
+            put_float(out, field.z);
+        }
+        Case::Epoch { year, day } => {
+            let (epoch_year, offset) = epoch(year, day)?;
+            put_int(out, epoch_year);
+            put_float(out, offset);
+        }
+        Case::Str { x, y, z } => {
+            // The record's own figures do not matter: uncertainty takes those of the lent year.
+            let error_model = WMM_ERROR_MODELS[0];
+            let field = GeomagneticField {
+                x,
+                y,
+                z,
+                error_model,
+            };
+            put_float(out, horizontal(&field)?);
+            put_float(out, total(&field)?);
+            put_int(
+                out,
+                match zone(&field)? {
+                    None => 0,
+                    Some(WarningZone::BlackoutZone) => 1,
+                    Some(WarningZone::CautionZone) => 2,
+                },
+            );
+            put_float(out, uncertainty(&field, 2020)?);
+            put_float(out, uncertainty(&field, 2025)?);
+        }
+        Case::Gv {
+            latitude_deg,
+            longitude_deg,
+            declination_deg,
+        } => match grid_variation(latitude_deg, longitude_deg, declination_deg)? {
+            Some(value) => {
+                out.extend_from_slice(b" P");
+                put_float(out, value);
+            }
+            None => out.extend_from_slice(b" N"),
+        },
+        Case::Sqrt { x } => put_float(out, square_root(x)?),
+    }
+    Ok(())
+}
+
+/// Reads a line without its newline. Keeps no more of it than tells that it is too long.
+/// Gives false at the end of the input, where no line is left.
+fn read_line(input: &mut impl BufRead, line: &mut Vec<u8>) -> io::Result<bool> {
+    line.clear();
+    let mut seen = false;
+    loop {
+        let buffer = input.fill_buf()?;
+        if buffer.is_empty() {
+            return Ok(seen);
+        }
+        seen = true;
+        let end = buffer.iter().position(|byte| *byte == b'\n');
+        let part = end.unwrap_or(buffer.len());
+        let room = LONGEST + 1 - line.len();
+        line.extend_from_slice(&buffer[..part.min(room)]);
+        match end {
+            Some(at) => {
+                input.consume(at + 1);
+                return Ok(true);
+            }
+            None => input.consume(part),
+        }
+    }
+}
+
+/// Answers line after line, to the end of the input.
+pub fn answer(input: &mut impl BufRead, output: &mut impl Write) -> io::Result<()> {
+    let mut replay = Replay::default();
+    let mut line = Vec::new();
+    let mut out = Vec::new();
+    while read_line(input, &mut line)? {
+        out.clear();
+        replay.line(&line, &mut out);
+        output.write_all(&out)?;
+    }
+    output.flush()
+}

@@ -1,0 +1,21 @@
+//! Tests: the worked examples of document 01, the refusals and their order, the line format, and
+//! the generated cases.
+mod format;
+mod generated;
+mod paper;
+mod refusals;
+
+use crate::entries::Set;
+use crate::synthesis::N_COEFF;
+
+/// A set of 2020 that is zero but for the named entries, each (list, index, value).
+fn set_of(entries: &[(usize, usize, f32)]) -> Set {
+    let mut set = Set {
+        epoch_year: 2020,
+        lists: [0, 1, 2, 3].map(|_| vec![0.0; N_COEFF]),
+    };
+    for (list, index, value) in entries {
+        set.lists[*list][*index] = *value;
+    }
+    set
+}

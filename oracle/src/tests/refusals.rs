@@ -1,0 +1,215 @@
+//! Each refusal alone, and of two faults the one that document 01 names first.
+use crate::entries::{
+    epoch, field, grid_variation, off_the_circle, square_root, sum, total, uncertainty, Refusal,
+    Set,
+};
+use crate::field::GeomagneticField;
+use crate::models::{days_in_year, model_by_epoch_year, WMM_ERROR_MODELS};
+
+type Pair = (f32, f32);
+
+#[derive(Clone)]
+struct FieldCall {
+    height: f32,
+    latitude: Pair,
+    longitude: Pair,
+    year: i32,
+    day: i32,
+    set: Set,
+}
+
+impl FieldCall {
+    fn number(&self) -> u32 {
+        let (sin_phi, cos_phi) = self.latitude;
+        let (sin_lambda, cos_lambda) = self.longitude;
+        let answer = field(
+            self.height,
+            sin_phi,
+            cos_phi,
+            sin_lambda,
+            cos_lambda,
+            self.year,
+            self.day,
+            &self.set,
+        );
+        answer.map_or_else(number, |_| 0)
+    }
+}
+
+fn number(refusal: Refusal) -> u32 {
+    let mut text = Vec::new();
+    crate::format::put_refusal(&mut text, &refusal);
+    let text = String::from_utf8(text).unwrap();
+    text.split(' ').next().unwrap().parse().unwrap()
+}
+
+#[test]
+fn field_refuses_in_order() {
+    let good = FieldCall {
+        height: 100.0,
+        latitude: (0.6, 0.8),
+        longitude: (0.0, -1.0),
+        year: 2022,
+        day: 100,
+        set: Set::of(model_by_epoch_year(2020).unwrap()),
+    };
+    assert_eq!(good.number(), 0);
+    type Fault = (u32, fn(&mut FieldCall));
+    let faults: [Fault; 9] = [
+        (1, |call| call.height = f32::NAN),
+        (2, |call| call.latitude = (0.6, 0.9)),
+        (3, |call| call.longitude = (0.0, f32::INFINITY)),
+        (4, |call| call.day = 0),
+        (5, |call| call.year = 2031),
+        (5, |call| call.set.epoch_year = 2021),
+        (6, |call| call.set.lists[3].truncate(89)),
+        (7, |call| call.set.lists[1][5] = 65536.01),
+        (8, |call| call.set.epoch_year = 2025),
+    ];
+    for (i, (first, spoil)) in faults.iter().enumerate() {
+        let mut call = good.clone();
+        spoil(&mut call);
+        assert_eq!(call.number(), *first);
+        for (second, spoil) in &faults[i + 1..] {
+            // the set's epoch is spoilt by one fault at a time
+            if (*first, *second) == (5, 8) {
+                continue;
+            }
+            let mut both = call.clone();
+            spoil(&mut both);
+            assert_eq!(both.number(), *first, "{first} and {second}");
+        }
+    }
+}
+
+#[test]
+fn sum_refuses_in_order() {
+    type Call = (Pair, Pair, f32, f32, Set);
+    type Fault = (u32, fn(&mut Call));
+    let ask = |call: &Call| {
+        let ((c, s), (sl, cl), ratio, offset, set) = call;
+        sum(*c, *s, *sl, *cl, *ratio, *offset, &set.lists).map_or_else(number, |_| 0)
+    };
+    let set = Set::of(model_by_epoch_year(2025).unwrap());
+    let good: Call = ((0.6, 0.8), (0.0, -1.0), 1.0, 2.5, set);
+    assert_eq!(ask(&good), 0);
+    let faults: [Fault; 6] = [
+        (9, |call| call.0 = (1.0, 1.0)),
+        (3, |call| call.1 = (f32::NAN, 0.0)),
+        (10, |call| call.2 = 1.02),
+        (11, |call| call.3 = -1e-45),
+        (6, |call| call.4.lists[0].push(0.0)),
+        (7, |call| call.4.lists[2][0] = 4096.5),
+    ];
+    for (i, (first, spoil)) in faults.iter().enumerate() {
+        let mut call = good.clone();
+        spoil(&mut call);
+        assert_eq!(ask(&call), *first);
+        for (second, spoil) in &faults[i + 1..] {
+            let mut both = call.clone();
+            spoil(&mut both);
+            assert_eq!(ask(&both), *first, "{first} and {second}");
+        }
+    }
+}
+
+#[test]
+fn what_is_carried() {
+    let mut set = Set::of(model_by_epoch_year(2020).unwrap());
+    let ask = |height: f32, set: &Set| field(height, 0.0, 1.0, 0.0, 1.0, 2020, 1, set);
+    assert_eq!(
+        ask(850000.1, &set),
+        Err(Refusal::Height {
+            min_km: -1.0,
+            max_km: 850.0
+        })
+    );
+    set.lists[3][0] = f32::NAN;
+    set.lists[2][89] = -4096.5;
+    assert_eq!(
+        ask(0.0, &set),
+        Err(Refusal::Coefficient { list: 2, index: 89 })
+    );
+}
+
+#[test]
+fn the_circle() {
+    // the f32 cosine of 90 degrees is a little below zero, and is taken
+    let set = Set::of(model_by_epoch_year(2020).unwrap());
+    let ask = |cos_phi| field(0.0, 1.0, cos_phi, 0.0, 1.0, 2020, 1, &set).map_err(number);
+    assert!(ask(f32::from_bits(0xb33bbd2e)).is_ok());
+    assert!(ask(f32::from_bits(0xb5800000)).is_ok());
+    assert_eq!(ask(f32::from_bits(0xb5800001)), Err(2));
+    assert_eq!(ask(-1.0), Err(2));
+    for (s, c) in [
+        (f32::NAN, 1.0),
+        (0.0, f32::NAN),
+        (f32::INFINITY, 0.0),
+        (1e30, 0.0),
+    ] {
+        assert!(off_the_circle(s, c));
+    }
+    // 1 + 2^-20 by its square's rounding, and a step more
+    let edge = f32::from_bits(0x3f800004);
+    assert!(!off_the_circle(0.0, edge));
+    assert!(off_the_circle(0.0, f32::from_bits(0x3f800005)));
+}
+
+#[test]
+fn years() {
+    let leap: Vec<i32> = (-8..=8).filter(|year| days_in_year(*year) == 366).collect();
+    assert_eq!(leap, [-8, -4, 0, 4, 8]);
+    for (year, days) in [
+        (1900, 365),
+        (2000, 366),
+        (-100, 365),
+        (-400, 366),
+        (2100, 365),
+    ] {
+        assert_eq!(days_in_year(year), days);
+    }
+    for year in [i32::MIN, -1, 0, i32::MAX] {
+        assert_eq!(epoch(year, 0).map_err(number), Err(4));
+        assert_eq!(epoch(year, 1).map_err(number), Err(5));
+        assert_eq!(epoch(year, 367).map_err(number), Err(4));
+    }
+}
+
+#[test]
+fn strengths_and_grid_variation() {
+    let record = |x, y, z| GeomagneticField {
+        x,
+        y,
+        z,
+        error_model: WMM_ERROR_MODELS[1],
+    };
+    let largest = 1152921504606846976.0;
+    assert!(total(&record(largest, -largest, largest)).is_ok());
+    assert_eq!(total(&record(0.0, 0.0, f32::NAN)), Err(Refusal::Unusable));
+    let over = f32::from_bits(0x5d800001);
+    assert_eq!(total(&record(0.0, over, 0.0)), Err(Refusal::Unusable));
+    assert_eq!(
+        uncertainty(&record(over, 0.0, 0.0), 2021).map_err(number),
+        Err(5)
+    );
+    assert_eq!(
+        uncertainty(&record(over, 0.0, 0.0), 2025).map_err(number),
+        Err(12)
+    );
+    // the figures are those of the lent year
+    let field = record(5625.0, 0.0, 0.0);
+    assert_eq!(uncertainty(&field, 2020), Ok((0.26f32 * 0.26 + 1.0).sqrt()));
+
+    let ask = |a, b, c| grid_variation(a, b, c).map_err(number);
+    assert_eq!(ask(f32::NAN, 181.0, 181.0), Err(2));
+    assert_eq!(ask(0.0, 181.0, 181.0), Err(3));
+    assert_eq!(ask(0.0, 180.0, 181.0), Err(12));
+    assert_eq!(ask(54.999996, 10.0, 20.0), Ok(None));
+    assert_eq!(ask(55.0, -170.0, 20.0), Ok(Some(-170.0)));
+    assert_eq!(ask(-55.0, -170.0, 20.0), Ok(Some(-150.0)));
+
+    assert_eq!(square_root(-0.0).map(f32::to_bits), Ok(0x80000000));
+    assert_eq!(square_root(f32::INFINITY), Ok(f32::INFINITY));
+    assert_eq!(square_root(-1e-45), Err(Refusal::Unusable));
+    assert_eq!(square_root(f32::NAN), Err(Refusal::Unusable));
+}
