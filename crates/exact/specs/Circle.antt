@@ -1,16 +1,19 @@
 -- A pair that passes the circle test has members of size at most 2: otherwise a square would round to 4 or more.
-use mathlib.Core.Path.{_≡_, refl, sym, ap, _∙_, subst}
-use Prim.Native.Nat.{ℕ, zero, suc, _+_, _-_, _*_, _^_, _≤_, _<_}
-use native.Mathlib.Nat.{le-trans, le-of-eq, le-of-lt, le-add-right, le-add-left, add-zero, zero-add, mul-pos, mul-one, mul-assoc, mul-le-mul, mul-le-mul-left, mul-le-mul-right}
+use mathlib.Core.Path.{_≡_, refl, sym, subst}
+use Prim.Native.Nat.{ℕ, zero, suc, _+_, _*_, _^_, _≤_, _<_}
+use native.Mathlib.Nat.{le-trans, le-of-eq, le-of-lt, le-add-right, le-add-left, add-zero, zero-add, mul-pos, mul-one, mul-assoc, mul-le-mul, mul-le-mul-right}
 use native.Mathlib.Omega.{arith}
-use mathlib.Core.Bool.{Bool, true, false, not, cond, true≢false}
-use lib.IntN.{ℤ, pos, negsuc}
+use mathlib.Core.Bool.{Bool, true, false, not, _&&_, cond, true≢false}
+use lib.IntN.{pos, negsuc}
 use lib.Dec.{T, ltb, leb, leb→le, nleb→lt, lit<}
-use lib.Ieee.{Float, nan, inf, fin, Format, binary32, prec, emax, low, up, down, size, odd, units, round, add, mul, lt, eq, le, sum}
-use lib.Ieee.Fits.{down-pos, round-is}
+use lib.Ieee.{Float, nan, inf, fin, binary32, up, down, odd, units, round, add, mul, lt, eq, le, sum, ofBits}
+use lib.Ieee.Fits.{down-pos, round-is, and-i, and-l, and-r}
 use lib.Ieee.Order.{drop, kept, round-mono}
 use lib.Ieee.Scale.{finite}
-use Rattle.exact.specs.Exact.{Exact, own}
+use Rattle.exact.specs.Tests.{between, circle}
+use Rattle.exact.specs.Exact.{own}
+use Rattle.exact.specs.Near.{near-own}
+use Rattle.exact.specs.Ranks.{Leaf}
 use Rattle.exact.specs.Sizes.{AtMost, or-le}
 
 abbrev NonNeg : Float → Type 0
@@ -143,3 +146,34 @@ on-circle s c fs fc t = (
         go : (b : Bool) → (T b → a ≤ 2 * d) → (T (not b) → 2 * d < a) → a ≤ 2 * d
         go true p q = p tt
         go false p q = absurd (n (q tt))
+
+-- ---- the circle test and what it says of its pair
+-- 1 - 2 ^ -20
+abbrev pub circle-bottom : Float
+circle-bottom = fin false 1048575 (negsuc 19)
+
+pub record Circled (s c : Float) : Type 0 where
+  pub finite-s : T (finite s)
+  pub finite-c : T (finite c)
+  pub above : T (le circle-bottom (add binary32 (mul binary32 s s) (mul binary32 c c)))
+  pub below : T (le (add binary32 (mul binary32 s s) (mul binary32 c c)) circle-top)
+
+pub circled : (s c : Float) → T (circle s c) → Circled s c
+unfolding circle ofBits
+circled s c h =
+    let q = add binary32 (mul binary32 s s) (mul binary32 c c) in
+    let f : T (finite s && finite c) = and-l (finite s && finite c) (between circle-bottom circle-top q) h in
+    let b : T (between circle-bottom circle-top q) = and-r (finite s && finite c) (between circle-bottom circle-top q) h in
+    record { finite-s = and-l (finite s) (finite c) f; finite-c = and-r (finite s) (finite c) f; above = and-l (le circle-bottom q) (le q circle-top) b; below = and-r (le circle-bottom q) (le q circle-top) b }
+
+pub circle-of : (s c : Float) → Circled s c → T (circle s c)
+unfolding circle ofBits
+circle-of s c o =
+    let q = add binary32 (mul binary32 s s) (mul binary32 c c) in
+    and-i (finite s && finite c) (between circle-bottom circle-top q) (and-i (finite s) (finite c) (o .finite-s) (o .finite-c)) (and-i (le circle-bottom q) (le q circle-top) (o .above) (o .below))
+
+pub circle-leaf : (s c : Float) → T (circle s c) → Leaf 2 s × Leaf 2 c
+circle-leaf s c h =
+    let o = circled s c h in
+    let u = on-circle s c (o .finite-s) (o .finite-c) (o .below) in
+    (near-own (o .finite-s) (u .0), near-own (o .finite-c) (u .1))

@@ -1,20 +1,36 @@
 -- From the tests of the inputs to the sizes that the bound asks for.
-use mathlib.Core.Path.{_≡_, refl, sym, ap, _∙_, subst}
-use Prim.Native.Nat.{ℕ, zero, suc, _+_, _-_, _*_, _^_, _≤_, _<_}
-use native.Mathlib.Nat.{le-refl, le-trans, le-of-eq, le-of-lt, lt-of-lt-of-le, lt-irrefl, zero-lt-suc, zero-mul, add-zero, zero-add, mul-comm, mul-right-comm, mul-le-mul-left, mul-le-mul-right, le-of-mul-le-mul-right, mul-pos}
+use mathlib.Core.Path.{_≡_, refl, sym, subst}
+use Prim.Native.Nat.{ℕ, zero, suc, _+_, _*_, _≤_, _<_}
+use native.Mathlib.Nat.{le-trans, le-of-eq, le-of-lt, lt-of-lt-of-le, lt-irrefl, zero-lt-suc, zero-mul, add-zero, zero-add, mul-right-comm, mul-le-mul-left, mul-le-mul-right, le-of-mul-le-mul-right, mul-pos}
 use native.Mathlib.Omega.{arith}
-use mathlib.Core.Bool.{Bool, true, false, not, _&&_, _||_, Bool·beq}
+use mathlib.Core.Bool.{Bool, true, false, _&&_, _||_}
 use lib.IntN.{ℤ}
-use lib.Dec.{T, ltb, eqb, leb, ltb→lt, eqb→eq, lit≤}
-use lib.Ieee.{Float, nan, inf, fin, up, down, below, level, lt, eq, le}
-use lib.Ieee.Fits.{down-pos, and-l, and-r}
+use lib.Dec.{T, ltb, eqb, ltb→lt, eqb→eq}
+use lib.Ieee.{Float, nan, inf, fin, up, down, lt, eq, le}
+use lib.Ieee.Fits.{down-pos, and-l}
+use lib.Ieee.Positive.{num, den}
 use Rattle.exact.specs.Tests.{abs}
 use lib.Ieee.Scale.{finite}
-use Rattle.exact.specs.Exact.{Exact, own, invE}
+use Rattle.exact.specs.Exact.{own, invE}
 use Rattle.exact.specs.Near.{Near, near-own}
 
 abbrev pub AtMost : ℕ → Float → Type 0
 AtMost B x = own x .plus + own x .minus ≤ B * own x .over
+
+-- the parts of a float's own number, by its size as the fraction num / den
+pub own-size : (f : Float) → own f .plus + own f .minus ≡ num f
+unfolding own
+own-size nan = refl
+own-size (inf s) = refl
+own-size (fin false m e) = add-zero (m * up e)
+own-size (fin true m e) = zero-add (m * up e)
+
+pub own-over : (f : Float) → own f .over ≡ den f
+unfolding own
+own-over nan = refl
+own-over (inf s) = refl
+own-over (fin false m e) = refl
+own-over (fin true m e) = refl
 
 -- a test of order between numbers of the same sign
 pub or-le : (a b : ℕ) (c : Bool) → T (ltb a b || (eqb a b && c)) → a ≤ b
@@ -25,7 +41,7 @@ or-le a b c t = go (ltb a b) (eqb a b) (ltb→lt a b) (eqb→eq a b) t
     go false true l e t = le-of-eq (e tt)
     go false false l e t = absurd t
 
-or-ge : (a b : ℕ) (c : Bool) → T (ltb b a || (eqb a b && c)) → b ≤ a
+pub or-ge : (a b : ℕ) (c : Bool) → T (ltb b a || (eqb a b && c)) → b ≤ a
 or-ge a b c t = go (ltb b a) (eqb a b) (ltb→lt b a) (eqb→eq a b) t
   where
     go : (p q : Bool) → (T p → b < a) → (T q → a ≡ b) → T (p || (q && c)) → b ≤ a

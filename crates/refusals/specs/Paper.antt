@@ -9,8 +9,9 @@ use lib.Dec.{eqb}
 use lib.IntN.{ℤ, pos, negsuc}
 use lib.ListN.{getD}
 use lib.Ieee.{Float, nan}
-use Rattle.refusals.specs.declared.Day.{Day}
 use Rattle.refusals.specs.declared.Refusal.{Refusal}
+use Rattle.refusals.specs.declared.Verdict.{Verdict}
+use Rattle.refusals.specs.declared.Verdict.the-variants as Verdict
 use Rattle.refusals.specs.declared.Refusal.the-variants.{Height, Latitude, Longitude, DayOfYear, EpochYear, Length, Coefficient, OtherEpoch, Colatitude, Ratio, Offset, Unusable}
 
 -- what a call says: its answer, or a refusal's number with the floats and the whole numbers that it carries
@@ -37,6 +38,16 @@ paper Unusable = refused 12 [] []
 abbrev pub unless : {A : Type 0} → Bool → Paper A → Paper A → Paper A
 unless true r p = p
 unless false r p = r
+
+-- what f says of the answer, or the refusal
+abbrev pub after : {A B : Type 0} → Paper A → (A → Paper B) → Paper B
+after (answered a) f = f a
+after (refused n x z) f = refused n x z
+
+-- a verdict, before what follows it
+abbrev pub told : {A : Type 0} → Verdict → Paper A → Paper A
+told Verdict.Accepted p = p
+told (Verdict.Refused k) p = paper k
 
 -- ---- the number and the values leave one refusal
 size : ℤ → ℕ
@@ -96,3 +107,10 @@ answered-one a b e = cc
 pub passed : {A : Type 0} (b : Bool) (k : Refusal) (p : Paper A) (a : A) → unless b (paper k) p ≡ answered a → (b ≡ true) × (p ≡ answered a)
 passed true k p a e = (refl, e)
 passed false k p a e = absurd (no-answer k a e)
+
+-- ---- what a verdict leaves
+pub told-refused : {A : Type 0} (u : Verdict) (k : Refusal) (F : Paper A → Paper A) → ((p : Paper A) → told u p ≡ F p) → u ≡ Verdict.Refused k → (p : Paper A) → paper k ≡ F p
+told-refused u k F f e p = sym (ap (λ (v : Verdict). told v p) e) ∙ f p
+
+pub told-accepted : {A : Type 0} (u : Verdict) (F : Paper A → Paper A) → ((p : Paper A) → told u p ≡ F p) → u ≡ Verdict.Accepted → (p : Paper A) → p ≡ F p
+told-accepted u F f e p = sym (ap (λ (v : Verdict). told v p) e) ∙ f p

@@ -33,3 +33,9 @@ pub enum Refusal {
     // 12
     Unusable,
 }
+
+// What a group of checks finds.
+pub enum Verdict {
+    Accepted,
+    Refused(Refusal),
+}

@@ -12,23 +12,23 @@ use lib.Seq.{drop-cons}
 use lib.Ieee.{Float, nan, fin, binary32, neg, ofBits, lt, div}
 use lib.Ieee.Fits.{and-l, and-r}
 use Rattle.float32.proofs.Checks.{within-capped}
-use Rattle.refusals.specs.Paper.{Paper, answered, paper, unless, passed, paper-one, no-answer, answered-one}
+use Rattle.refusals.specs.Paper.{Paper, answered, paper, unless, passed, paper-one, no-answer, answered-one, told, told-refused, told-accepted}
 use Rattle.refusals.specs.declared.Refusal.{Refusal}
 use Rattle.refusals.specs.declared.Refusal.the-variants.{Length, Coefficient, Colatitude, Longitude, Ratio, Offset}
 use Rattle.tables.specs.Degree.{N-MAX, N-COEFF}
 use Rattle.synthesis.specs.declared.Xyz.{Xyz}
-use Rattle.synthesis.specs.declared.checks.Verdict.{Verdict}
-use Rattle.synthesis.specs.declared.checks.Verdict.the-variants as Verdict
+use Rattle.refusals.specs.declared.Verdict.{Verdict}
+use Rattle.refusals.specs.declared.Verdict.the-variants as Verdict
 use Rattle.synthesis.specs.declared.SumAnswer.{SumAnswer}
 use Rattle.synthesis.specs.declared.SumAnswer.the-variants as Answer
 use Rattle.synthesis.specs.Sum.{said, Close, Lent, entriesSay, listsSay, long, main-cap, numbersSay, offset-ok, rate-cap, ratio-ok, sumSays, valueOf, at, inputs, small-sine}
 use Rattle.synthesis.specs.Demand.{Accepted, close, ok}
 use Rattle.exact.specs.Tests.{all-between, all-capped, between, capped, circle, abs}
 use Rattle.exact.specs.Near.{hi, lo}
-use Rattle.synthesis.specs.Code.{withinOf, general, nearPole, told}
+use Rattle.synthesis.specs.Code.{withinOf, general, nearPole}
 use Rattle.synthesis.specs.Arithmetic.{rounded}
 
-holds : {b : Bool} → b ≡ true → T b
+pub holds : {b : Bool} → b ≡ true → T b
 holds e = subst T (sym e) tt
 
 -- ---- four tests, one after another
@@ -126,7 +126,7 @@ module _ (a : Lent) (u : Float) (eu : u ≡ abs (a .sin-theta)) where
   value-general n r e = let s : lt (abs (a .sin-theta)) (ofBits binary32 0x3a83126f) ≡ false = rw eu at n in rw (s, e)
 
 -- ---- what an answer says of what is lent
-entries-capped : (cap : Float) (k i : ℕ) (l : List Float) (p : Paper Xyz) (v : Xyz) → entriesSay cap k i l p ≡ answered v → T (all-capped cap l) × (p ≡ answered v)
+entries-capped : {A : Type 0} (cap : Float) (k i : ℕ) (l : List Float) (p : Paper A) (v : A) → entriesSay cap k i l p ≡ answered v → T (all-capped cap l) × (p ≡ answered v)
 unfolding entriesSay all-capped
 entries-capped cap k i [] p v e = (tt, e)
 entries-capped cap k i (x ∷ l) p v e =
@@ -144,11 +144,11 @@ pub record Listed (g h gd hd : List Float) : Type 0 where
   pub gd-capped : T (all-capped rate-cap gd)
   pub hd-capped : T (all-capped rate-cap hd)
 
-is-true : (b : Bool) → T b → b ≡ true
+pub is-true : (b : Bool) → T b → b ≡ true
 is-true true t = refl
 is-true false t = absurd t
 
-pub listed : (g h gd hd : List Float) (p : Paper Xyz) (v : Xyz) → listsSay g h gd hd p ≡ answered v → Listed g h gd hd × (p ≡ answered v)
+pub listed : {A : Type 0} (g h gd hd : List Float) (p : Paper A) (v : A) → listsSay g h gd hd p ≡ answered v → Listed g h gd hd × (p ≡ answered v)
 unfolding listsSay
 listed g h gd hd p v e =
     let a = eqb (length g) N-COEFF in
@@ -216,12 +216,6 @@ sum-answer-one a r s e f = go r s (e ∙ sym f)
     go (Answer.Refused k) (Answer.Refused l) h = ap Answer.Refused (paper-one k l h)
 
 -- ---- the ways to a verdict, and to an answer
-told-refused : (u : Verdict) (k : Refusal) (F : Paper Xyz → Paper Xyz) → ((p : Paper Xyz) → told u p ≡ F p) → u ≡ Verdict.Refused k → (p : Paper Xyz) → paper k ≡ F p
-told-refused u k F f e p = sym (ap (λ (v : Verdict). told v p) e) ∙ f p
-
-told-accepted : (u : Verdict) (F : Paper Xyz → Paper Xyz) → ((p : Paper Xyz) → told u p ≡ F p) → u ≡ Verdict.Accepted → (p : Paper Xyz) → p ≡ F p
-told-accepted u F f e p = sym (ap (λ (v : Verdict). told v p) e) ∙ f p
-
 pub too-short : (g h gd hd : List Float) → long g h gd hd ≡ false → (p : Paper Xyz) → paper Length ≡ listsSay g h gd hd p
 unfolding listsSay
 too-short g h gd hd e p = rw e

@@ -5,3 +5,4 @@ pub mod RowsHold
 pub mod GeneralSum
 pub mod PoleSum
 pub mod Checked
+pub mod Carry

@@ -7,9 +7,6 @@ use lib.ListN.{getD, set}
 use lib.Ieee.{Float, nan, binary32, ofBits, neg}
 use Rattle.tables.specs.Degree.{M-LEN, N-COEFF}
 use Rattle.synthesis.specs.declared.Xyz.{Xyz}
-use Rattle.refusals.specs.Paper.{Paper, paper}
-use Rattle.synthesis.specs.declared.checks.Verdict.{Verdict}
-use Rattle.synthesis.specs.declared.checks.Verdict.the-variants as Verdict
 use Rattle.synthesis.specs.declared.rows.PDp.{PDp}
 use Rattle.synthesis.specs.declared.rows.Places.{Places}
 use Rattle.synthesis.specs.declared.angles.Angles.{Angles}
@@ -17,7 +14,6 @@ use Rattle.synthesis.specs.declared.angles.SinCos.{SinCos}
 use Rattle.synthesis.specs.Recurrence.{Input, angle, coefficient, down, dps, east, gc, gs, next-quotient, pole-east, pole-x, pole-y, pole-z, power, ps, x-sum, y-sum, z-sum}
 use Rattle.synthesis.specs.Sum.{Lent, POLE-ORDERS, main-cap, rate-cap}
 use Rattle.synthesis.specs.Arithmetic.{Pair, pair, rounded}
-use Rattle.synthesis.specs.Demand.{Accepted}
 use Rattle.exact.specs.Tests.{all-between}
 
 -- P and its derivative, and back
@@ -88,11 +84,6 @@ abbrev pub general : Input → ℕ → Xyz
 general i N = record { x = x-sum rounded i N; y = y-sum rounded i N; z = z-sum rounded i N }
 
 -- ---- the checks
--- a verdict, before what follows it
-abbrev pub told : Verdict → Paper Xyz → Paper Xyz
-told Verdict.Accepted p = p
-told (Verdict.Refused k) p = paper k
-
 -- every entry of the four lists is within its cap
 unfoldable pub withinOf : List Float → List Float → List Float → List Float → Bool
 withinOf g h g-dot h-dot =

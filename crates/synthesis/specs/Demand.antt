@@ -7,12 +7,11 @@ use mathlib.Core.Bool.{Bool, true, false, not, _&&_, cond}
 use lib.ListN.{getD}
 use lib.IntN.{ℤ, pos, negsuc}
 use lib.Dec.{T, leb, leb→le, nltb→le, le→leb, lit≤, lit<}
-use lib.Ieee.{Float, nan, inf, fin, up, down, binary32, add, mul, lt, le, ofBits}
+use lib.Ieee.{Float, nan, inf, fin, up, down, binary32, lt, le, ofBits}
 use lib.Ieee.Fits.{and-l, and-r}
 use lib.Ieee.Scale.{finite}
 use Rattle.exact.specs.Tests.{circle, all-capped, between, capped}
 use Rattle.exact.specs.Sizes.{leaf, size-leaf, inverse}
-use Rattle.exact.specs.Circle.{circle-top, on-circle}
 use Rattle.synthesis.specs.Sum.{Close, Lent, at, inputs, main-cap, near-pole, nought, offset-ok, rate-cap, ratio-ok, small-sine, sum-x, sum-y, sum-z, valueOf}
 use Rattle.exact.specs.Exact.{Exact, Size, own, size}
 use Rattle.exact.specs.Ranks.{Leaf, fine}
@@ -25,6 +24,7 @@ use Rattle.tables.specs.Degree.{place}
 use Rattle.synthesis.specs.Arithmetic.{rounded, sizes, unrounded}
 use Rattle.exact.specs.Reach.{within}
 use Rattle.synthesis.specs.Majorant.{x-majorant, y-majorant, z-majorant}
+use Rattle.exact.specs.Circle.{circle-leaf, circled}
 
 -- what the checks say of what is lent
 pub record Accepted (a : Lent) : Type 0 where
@@ -108,22 +108,6 @@ offset-leaf : (x : Float) → T (offset-ok x) → Leaf 5 x
 unfolding offset-ok ofBits
 offset-leaf x t = between-leaf 5 false false 0 5 (pos 0) (pos 0) x (lit≤ tt) (lit≤ tt) t
 
-pub circle-leaf : (s c : Float) → T (circle s c) → Leaf 2 s × Leaf 2 c
-unfolding circle ofBits
-circle-leaf s c h =
-    let q = add binary32 (mul binary32 s s) (mul binary32 c c) in
-    let f : T (finite s && finite c) = and-l (finite s && finite c) (between (fin false 1048575 (negsuc 19)) circle-top q) h in
-    let b : T (between (fin false 1048575 (negsuc 19)) circle-top q) = and-r (finite s && finite c) (between (fin false 1048575 (negsuc 19)) circle-top q) h in
-    let fs = and-l (finite s) (finite c) f in
-    let fc = and-r (finite s) (finite c) f in
-    let u = on-circle s c fs fc (and-r (le (fin false 1048575 (negsuc 19)) q) (le q circle-top) b) in
-    (near-own fs (u .0), near-own fc (u .1))
-
-circle-finite : (s c : Float) → T (circle s c) → T (finite s)
-unfolding circle
-circle-finite s c h =
-    and-l (finite s) (finite c) (and-l (finite s && finite c) (between (ofBits binary32 0x3f7ffff0) (ofBits binary32 0x3f800008) (add binary32 (mul binary32 s s) (mul binary32 c c))) h)
-
 pub ok : (a : Lent) → Accepted a → Ok (inputs a)
 unfolding inputs schmidtAt kAt
 ok a w =
@@ -169,7 +153,7 @@ module _ (a : Lent) (w : Accepted a) where
   sum-z-within = majored (z-majorant a) (either (near-pole a) _ _ _ _ (λ t. within (pole-z-near (inputs a) (ok a w)) (lit≤ tt) (lit≤ tt)) (λ t. within (z-sum-near (inputs a) (ok a w)) (lit≤ tt) (lit≤ tt)))
 
   sine-finite : T (finite (a .sin-theta))
-  sine-finite = circle-finite (a .sin-theta) (a .cos-theta) (w .colatitude)
+  sine-finite = circled (a .sin-theta) (a .cos-theta) (w .colatitude) .finite-s
 
   -- 1 / sine is at most 1024 in size on the general path
   sum-y-within : Within (sum-y rounded a) (sum-y unrounded a) (sum-y sizes a)

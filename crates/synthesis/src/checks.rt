@@ -3,23 +3,19 @@ use crate::Colatitude;
 use crate::Longitude;
 use crate::N_COEFF;
 use refusals::Refusal;
+use refusals::Verdict;
 ghost use mathlib.Core.Path.{_≡_};
 ghost use lib.Ieee.{neg};
 ghost use Rattle.exact.specs.Tests.{all-between};
-ghost use Rattle.refusals.specs.Paper.{Paper};
+ghost use Rattle.refusals.specs.Paper.{Paper, told};
 ghost use Rattle.synthesis.specs.declared.Xyz.{Xyz};
 ghost use Rattle.synthesis.specs.Sum.{numbersSay, entriesSay, long, listsSay};
-ghost use Rattle.synthesis.specs.Code.{told, withinOf};
+ghost use Rattle.synthesis.specs.Code.{withinOf};
 
 // Caps on an entry's size: nT for the coefficients, nT a year for the rates.
 const MAIN_CAP: f32 = 65536.0;
 
 const RATE_CAP: f32 = 4096.0;
-
-pub enum Verdict {
-    Accepted,
-    Refused(Refusal),
-}
 
 pub fn check_numbers(
     colatitude: Colatitude,

@@ -1,9 +1,9 @@
 // The entry Sum: X', Y and Z' of the model at a geocentric place and a date, in the crate's sign.
-use checks::Verdict;
 use checks::check_lists;
 use checks::check_numbers;
 use paths::synthesize_geocentric_xyz;
 use refusals::Refusal;
+use refusals::Verdict;
 ghost use mathlib.Core.Path.{_≡_};
 ghost use Rattle.synthesis.specs.Sum.{sumSays, said, Close};
 ghost use Rattle.synthesis.specs.Code.{lent};

@@ -1,0 +1,105 @@
+-- Field hands Sum only what Sum accepts, and its X, Y and Z keep the distance of demand 3, for every accepted input.
+use mathlib.Core.Path.{_≡_, sym, ap₂, _∙_}
+use mathlib.Core.Bool.{true, not}
+use mathlib.Core.Logic.{⊎-elim}
+use lib.Dec.{T}
+use lib.IntN.{ℤ}
+use lib.Ieee.{binary32, ofBits, neg}
+use lib.Ieee.Positive.{positive}
+use Rattle.refusals.specs.Paper.{Paper, answered, passed}
+use Rattle.refusals.specs.declared.Refusal.the-variants.{Height, Latitude, Longitude}
+use Rattle.models.specs.declared.epochs.EpochOffset.{EpochOffset}
+use Rattle.models.specs.Epochs.{epochSays, knownEpoch}
+use Rattle.models.specs.Dated.{Dated, dated}
+use Rattle.synthesis.specs.Demand as Sum
+use Rattle.field.specs.declared.strengths.GeomagneticField.{GeomagneticField}
+use Rattle.field.specs.Field.{Accepted, Asked, Close, field-x, field-y, field-z, handed, placeSays, recordOf, strengthsOf}
+use Rattle.exact.specs.Ranks.{Leaf}
+use Rattle.synthesis.proofs.Checked.{Listed, holds}
+use Rattle.exact.specs.Tests.{circle}
+use Rattle.geocentric.specs.Geo.{heightOk, latitudeOk}
+use Rattle.synthesis.specs.Sum.{listsSay, near-pole, ratio-ok, small-sine, sum-x, sum-z, sumSays, valueOf}
+use Rattle.geocentric.proofs.Laws.{never-10, never-9, sine-positive, latitude-leaf}
+use Rattle.field.proofs.Offset.{never-11}
+use Rattle.synthesis.proofs.Carry.{numbers-accept}
+use Rattle.synthesis.specs.Arithmetic.{sizes, unrounded}
+use Rattle.field.specs.Turn.{turn-x, turn-z}
+use Rattle.field.proofs.TurnNear.{turn-x-size, turn-z-size, turned-x-within, turned-z-within}
+use Rattle.synthesis.specs.Majorant.{x-majorant, z-majorant}
+
+module _ (a : Asked) (e : EpochOffset) (w : Accepted a e) where
+  -- never 9: the computed pair passes the circle test; never 10: the ratio lies in its range
+  pub field-never-9 : T (circle (handed a e .sin-theta) (handed a e .cos-theta))
+  unfolding handed
+  field-never-9 = never-9 (a .height) (a .sin-phi) (a .cos-phi) (w .height) (w .latitude)
+
+  pub field-never-10 : T (ratio-ok (handed a e .ratio))
+  unfolding handed ratio-ok
+  field-never-10 = never-10 (a .height) (a .sin-phi) (a .cos-phi) (w .height) (w .latitude)
+
+  -- so Sum says of Field's numbers what its lists say
+  pub sum-says : sumSays (handed a e) ≡ listsSay (a .g) (a .h) (a .g-dot) (a .h-dot) (answered (valueOf (handed a e)))
+  unfolding handed
+  sum-says = numbers-accept (handed a e) field-never-9 (w .longitude) field-never-10 (w .offset)
+
+  -- where Y' is divided by the sine, the sine is above zero
+  pub divided-by-positive : T (not (near-pole (handed a e))) → T (positive (handed a e .sin-theta))
+  unfolding handed small-sine
+  divided-by-positive t = sine-positive (a .height) (a .sin-phi) (a .cos-phi) (w .height) (w .latitude) t
+
+  module _ (l : Listed (a .g) (a .h) (a .g-dot) (a .h-dot)) where
+    sum-accepted : Sum.Accepted (handed a e)
+    unfolding handed
+    sum-accepted =
+        record {
+          colatitude = field-never-9;
+          longitude = w .longitude;
+          ratio = field-never-10;
+          offset = w .offset;
+          g = l .g-capped;
+          h = l .h-capped;
+          g-dot = l .gd-capped;
+          h-dot = l .hd-capped;
+        }
+
+    lat-s : Leaf 2 (a .sin-phi)
+    lat-s = latitude-leaf (a .sin-phi) (a .cos-phi) (w .latitude) .0
+
+    lat-c : Leaf 2 (a .cos-phi)
+    lat-c = latitude-leaf (a .sin-phi) (a .cos-phi) (w .latitude) .1
+
+    -- demand 3 for Field
+    pub close : Close a e (recordOf (strengthsOf a e) (e .«epoch_year»))
+    unfolding field-x field-y field-z
+    close =
+        let s = handed a e in
+        record {
+          x = Sum.majored (turn-x-size (s .cos-theta) (s .sin-theta) (a .cos-phi) (a .sin-phi) (sum-x unrounded s) (sum-z unrounded s) ∙ ap₂ (turn-x sizes (s .cos-theta) (s .sin-theta) (a .cos-phi) (a .sin-phi)) (x-majorant s) (z-majorant s))
+              (turned-x-within s sum-accepted (a .cos-phi) (a .sin-phi) lat-c lat-s);
+          y = Sum.close s sum-accepted .y;
+          z = Sum.majored (turn-z-size (s .cos-theta) (s .sin-theta) (a .cos-phi) (a .sin-phi) (sum-x unrounded s) (sum-z unrounded s) ∙ ap₂ (turn-z sizes (s .cos-theta) (s .sin-theta) (a .cos-phi) (a .sin-phi)) (x-majorant s) (z-majorant s))
+              (turned-z-within s sum-accepted (a .cos-phi) (a .sin-phi) lat-c lat-s);
+        }
+
+-- ---- what an answer says of what is asked
+known-of : {year day : ℤ} {e : EpochOffset} → Dated year day e → knownEpoch (e .«epoch_year») ≡ true
+unfolding knownEpoch
+known-of t = rw (t .epoch-is) (⊎-elim (λ h. rw h) (λ h. rw h) (t .known))
+
+module _ (a : Asked) (year day : ℤ) where
+  pub accepted-by : heightOk (a .height) ≡ true → latitudeOk (a .sin-phi) (a .cos-phi) ≡ true → circle (a .sin-lambda) (a .cos-lambda) ≡ true
+      → (e : EpochOffset) → epochSays year day ≡ answered e → Accepted a e
+  accepted-by h l c e d =
+      let t = dated year day e d in
+      record { height = holds h; latitude = holds l; longitude = holds c; offset = never-11 t; known = known-of t }
+
+  -- a place that passed, and a day that Epoch answered for
+  pub accepted-at : ((q : Paper GeomagneticField) → q ≡ placeSays (a .height) (a .sin-phi) (a .cos-phi) (a .sin-lambda) (a .cos-lambda) q)
+      → (e : EpochOffset) → epochSays year day ≡ answered e → Accepted a e
+  unfolding placeSays
+  accepted-at f e d =
+      let v : GeomagneticField = recordOf (record { x = a .height; y = a .height; z = a .height }) (e .«epoch_year») in
+      let p1 = passed (heightOk (a .height)) (Height (neg (ofBits binary32 0x3f800000)) (ofBits binary32 0x44548000)) _ v (sym (f (answered v))) in
+      let p2 = passed (latitudeOk (a .sin-phi) (a .cos-phi)) Latitude _ v (p1 .1) in
+      let p3 = passed (circle (a .sin-lambda) (a .cos-lambda)) Longitude _ v (p2 .1) in
+      accepted-by (p1 .0) (p2 .0) (p3 .0) e d

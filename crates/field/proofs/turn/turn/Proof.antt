@@ -1,0 +1,13 @@
+-- `field::turn::turn` meets its contract. Assumes nothing.
+use mathlib.Core.Path.{refl}
+use Rattle.synthesis.specs.Arithmetic.{rounded}
+use Rattle.field.specs.Turn.{turned, turn-x, turn-z, sin-turn, cos-turn}
+use Rattle.field.proofs.turn.turn.Statement.{statement}
+use Rattle.field.proofs.turn.turn.Tie as tie
+
+returns : tie.Need-returns
+unfolding turned turn-x turn-z sin-turn cos-turn rounded
+returns c = refl
+
+pub turn-spec : {M : Type 1} → statement M
+turn-spec = tie.close (tie.spec returns)

@@ -1,0 +1,2 @@
+-- The words of the contracts, and what is accepted.
+pub mod Geo
