@@ -23,7 +23,8 @@ oracle answer                        answers the case lines of standard input
 oracle cases SEED COUNT [KIND ...]   writes COUNT case lines with their answers
                                      (SUM FIELD EPOCH STR GV SQRT BAD; none named: all)
 oracle roots                         compares the root on all 2^31 patterns, two threads
-oracle published FILE                compares the published test values";
+oracle published FILE                compares the published test values
+oracle rows FILE                     writes them as lines for the program replay";
 
 const BUFFER: usize = 1 << 16;
 
@@ -79,6 +80,13 @@ fn main() -> ExitCode {
         ["roots"] => match roots::compare_all() {
             0 => ExitCode::SUCCESS,
             _ => ExitCode::FAILURE,
+        },
+        ["rows", path] => match fs::read_to_string(path)
+            .ok()
+            .and_then(|t| published::lines(&t))
+        {
+            Some(lines) => ended(io::Write::write_all(&mut io::stdout().lock(), &lines)),
+            None => usage(),
         },
         ["published", file] => match fs::read_to_string(file) {
             Ok(text) if published::compare(&text) == 0 => ExitCode::SUCCESS,

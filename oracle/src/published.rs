@@ -2,6 +2,7 @@
 //! longitude [degrees], D, I [degrees], H, X, Y, Z, F [nT].
 use crate::entries::{field, Set};
 use crate::field::{field_at_offset, GeomagneticField};
+use crate::format::put_set;
 use crate::models::{error_model_by_epoch_year, model_by_epoch_year};
 
 const NAMES: [&str; 7] = ["D", "I", "H", "X", "Y", "Z", "F"];
@@ -37,15 +38,26 @@ fn parse_row(line: &str) -> Option<Row> {
     })
 }
 
+/// What the modules are lent for a row: the height in metres, and the sines and cosines of f64
+/// rounded to f32.
+fn lent(row: &Row) -> [f32; 5] {
+    let (sin_phi, cos_phi) = row.latitude_deg.to_radians().sin_cos();
+    let (sin_lambda, cos_lambda) = row.longitude_deg.to_radians().sin_cos();
+    [
+        row.height_km * 1000.0,
+        sin_phi,
+        cos_phi,
+        sin_lambda,
+        cos_lambda,
+    ]
+    .map(|x| x as f32)
+}
+
 /// The field of a row. Sines and cosines are those of f64, rounded to f32. At a whole year the
 /// entry Field is asked; at another date the modules are run with that offset.
 fn field_of(row: &Row) -> Option<GeomagneticField> {
     let model = model_by_epoch_year(row.model)?;
-    let (sin_phi, cos_phi) = row.latitude_deg.to_radians().sin_cos();
-    let (sin_lambda, cos_lambda) = row.longitude_deg.to_radians().sin_cos();
-    let height = (row.height_km * 1000.0) as f32;
-    let pairs = [sin_phi, cos_phi, sin_lambda, cos_lambda].map(|x| x as f32);
-    let [sin_phi, cos_phi, sin_lambda, cos_lambda] = pairs;
+    let [height, sin_phi, cos_phi, sin_lambda, cos_lambda] = lent(row);
     if row.date.fract() == 0.0 {
         let year = row.date as i32;
         let set = Set::of(model);
@@ -125,4 +137,46 @@ pub fn compare(text: &str) -> usize {
     println!("largest:{said}");
     println!("{rows} rows, {failed} failed");
     failed
+}
+
+/// The rows as lines for the program replay, which says `within` where each of X, Y and Z lies
+/// within 0.1 nT of the listed value. Gives nothing where a row cannot be read.
+pub fn lines(text: &str) -> Option<Vec<u8>> {
+    let mut out = Vec::new();
+    let mut model_in_force = 0;
+    for line in text.lines() {
+        if line.trim().is_empty() || line.starts_with('#') {
+            continue;
+        }
+        let row = parse_row(line)?;
+        if row.model != model_in_force {
+            put_set(&mut out, &Set::of(model_by_epoch_year(row.model)?));
+            out.push(b'\n');
+            model_in_force = row.model;
+        }
+        let hex = |numbers: &[f32]| -> String {
+            numbers
+                .iter()
+                .map(|x| format!(" {:08x}", x.to_bits()))
+                .collect()
+        };
+        let date = if row.date.fract() == 0.0 {
+            format!(" {} 1", row.date)
+        } else {
+            hex(&[(row.date - f64::from(row.model)) as f32])
+        };
+        let word = if row.date.fract() == 0.0 {
+            "ROW"
+        } else {
+            "MID"
+        };
+        let listed: Vec<f32> = row.listed[3..6].iter().map(|x| *x as f32).collect();
+        let said = format!(
+            "{word}{}{date}{} = within\n",
+            hex(&lent(&row)),
+            hex(&listed)
+        );
+        out.extend_from_slice(said.as_bytes());
+    }
+    Some(out)
 }

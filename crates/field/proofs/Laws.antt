@@ -1,5 +1,5 @@
 -- Field hands Sum only what Sum accepts, and its X, Y and Z keep the distance of demand 3, for every accepted input.
-use mathlib.Core.Path.{_≡_, sym, ap₂, _∙_}
+use mathlib.Core.Path.{_≡_, sym}
 use mathlib.Core.Bool.{true, not}
 use mathlib.Core.Logic.{⊎-elim}
 use lib.Dec.{T}
@@ -18,14 +18,14 @@ use Rattle.exact.specs.Ranks.{Leaf}
 use Rattle.synthesis.proofs.Checked.{Listed, holds}
 use Rattle.exact.specs.Tests.{circle}
 use Rattle.geocentric.specs.Geo.{heightOk, latitudeOk}
-use Rattle.synthesis.specs.Sum.{listsSay, near-pole, ratio-ok, small-sine, sum-x, sum-z, sumSays, valueOf}
+use Rattle.synthesis.specs.Sum.{listsSay, near-pole, ratio-ok, small-sine, sumSays, valueOf}
 use Rattle.geocentric.proofs.Laws.{never-10, never-9, sine-positive, latitude-leaf}
 use Rattle.field.proofs.Offset.{never-11}
 use Rattle.synthesis.proofs.Carry.{numbers-accept}
 use Rattle.synthesis.specs.Arithmetic.{sizes, unrounded}
-use Rattle.field.specs.Turn.{turn-x, turn-z}
-use Rattle.field.proofs.TurnNear.{turn-x-size, turn-z-size, turned-x-within, turned-z-within}
-use Rattle.synthesis.specs.Majorant.{x-majorant, z-majorant}
+use Rattle.field.proofs.TurnNear.{turned-x-within, turned-z-within}
+use Rattle.field.proofs.TurnRelated.{turn-x-related, turn-z-related}
+use Rattle.synthesis.specs.Majorant.{SizeIs, size-related, x-majorant, z-majorant}
 
 module _ (a : Asked) (e : EpochOffset) (w : Accepted a e) where
   -- never 9: the computed pair passes the circle test; never 10: the ratio lies in its range
@@ -48,7 +48,7 @@ module _ (a : Asked) (e : EpochOffset) (w : Accepted a e) where
   divided-by-positive t = sine-positive (a .height) (a .sin-phi) (a .cos-phi) (w .height) (w .latitude) t
 
   module _ (l : Listed (a .g) (a .h) (a .g-dot) (a .h-dot)) where
-    sum-accepted : Sum.Accepted (handed a e)
+    pub sum-accepted : Sum.Accepted (handed a e)
     unfolding handed
     sum-accepted =
         record {
@@ -74,10 +74,10 @@ module _ (a : Asked) (e : EpochOffset) (w : Accepted a e) where
     close =
         let s = handed a e in
         record {
-          x = Sum.majored (turn-x-size (s .cos-theta) (s .sin-theta) (a .cos-phi) (a .sin-phi) (sum-x unrounded s) (sum-z unrounded s) ∙ ap₂ (turn-x sizes (s .cos-theta) (s .sin-theta) (a .cos-phi) (a .sin-phi)) (x-majorant s) (z-majorant s))
+          x = Sum.majored (turn-x-related unrounded sizes SizeIs size-related (s .cos-theta) (s .sin-theta) (a .cos-phi) (a .sin-phi) (x-majorant s) (z-majorant s))
               (turned-x-within s sum-accepted (a .cos-phi) (a .sin-phi) lat-c lat-s);
           y = Sum.close s sum-accepted .y;
-          z = Sum.majored (turn-z-size (s .cos-theta) (s .sin-theta) (a .cos-phi) (a .sin-phi) (sum-x unrounded s) (sum-z unrounded s) ∙ ap₂ (turn-z sizes (s .cos-theta) (s .sin-theta) (a .cos-phi) (a .sin-phi)) (x-majorant s) (z-majorant s))
+          z = Sum.majored (turn-z-related unrounded sizes SizeIs size-related (s .cos-theta) (s .sin-theta) (a .cos-phi) (a .sin-phi) (x-majorant s) (z-majorant s))
               (turned-z-within s sum-accepted (a .cos-phi) (a .sin-phi) lat-c lat-s);
         }
 

@@ -1,6 +1,8 @@
 -- The laws of Field.
 pub mod Offset
 pub mod TurnNear
+pub mod TurnRelated
 pub mod Laws
 pub mod Answers
 pub mod StrengthLaws
+pub mod FirstDay

@@ -1,5 +1,4 @@
--- The turn keeps near what is near, and its majorant is the turn over sizes.
-use mathlib.Core.Path.{_≡_, refl, ap₂, _∙_}
+-- The turn keeps near what is near.
 use mathlib.Core.Bool.{Bool, true, false, cond}
 use lib.Dec.{lit≤}
 use lib.Ieee.{Float, binary32, mul}
@@ -15,8 +14,7 @@ use Rattle.field.specs.Turn.{cos-turn, sin-turn, turn-x, turn-z}
 use Rattle.exact.specs.Near.{near-neg, weaken}
 use Rattle.synthesis.specs.Demand.{Accepted, ok}
 use Rattle.synthesis.specs.Recurrence.{pole-x, x-sum}
-use Rattle.synthesis.specs.Majorant.{size-hom}
-use Rattle.synthesis.specs.Arithmetic.{rounded, sizes, unrounded}
+use Rattle.synthesis.specs.Arithmetic.{rounded, unrounded}
 use Rattle.exact.specs.Reach.{within}
 
 -- ---- from any X' and Z' of the bound a
@@ -87,22 +85,3 @@ module _ (a : Lent) (w : Accepted a) (cp sp : Float) (CP : Leaf 2 cp) (SP : Leaf
       by-path (near-pole a) (turn-z rounded (a .cos-theta) (a .sin-theta) cp sp) (turn-z unrounded (a .cos-theta) (a .sin-theta) cp sp) _ _ _ _ _ _ _ _
       (within (turn-z-near (a .cos-theta) (a .sin-theta) cp sp c-leaf s-leaf CP SP (accA pzA N-MAX) _ _ _ _ x-pole (pole-z-near (inputs a) okay) (fine-ok (mulA (accA pzA N-MAX) turnA) tt) (fine-ok (bothA (accA pzA N-MAX)) tt)) (lit≤ tt) (lit≤ tt))
       (within (turn-z-near (a .cos-theta) (a .sin-theta) cp sp c-leaf s-leaf CP SP (accA zsA N-MAX) _ _ _ _ x-general (z-sum-near (inputs a) okay) (fine-ok (mulA (accA zsA N-MAX) turnA) tt) (fine-ok (bothA (accA zsA N-MAX)) tt)) (lit≤ tt) (lit≤ tt))
-
--- ---- the majorants
-module _ (c s cp sp : Float) where
-  sin-size : size (sin-turn unrounded c s cp sp) ≡ sin-turn sizes c s cp sp
-  unfolding sin-turn
-  sin-size = simp (size-hom .less, size-hom .times, size-hom .num)
-
-  cos-size : size (cos-turn unrounded c s cp sp) ≡ cos-turn sizes c s cp sp
-  unfolding cos-turn
-  cos-size = simp (size-hom .plus, size-hom .times, size-hom .num)
-
-  module _ (x z : Exact) where
-    pub turn-x-size : size (turn-x unrounded c s cp sp x z) ≡ turn-x sizes c s cp sp (size x) (size z)
-    unfolding turn-x
-    turn-x-size = size-hom .plus _ _ ∙ ap₂ (sizes .plus) (size-hom .times _ _ ∙ ap₂ (sizes .times) (size-hom .opp x) cos-size) (size-hom .times _ _ ∙ ap₂ (sizes .times) refl sin-size)
-
-    pub turn-z-size : size (turn-z unrounded c s cp sp x z) ≡ turn-z sizes c s cp sp (size x) (size z)
-    unfolding turn-z
-    turn-z-size = size-hom .less _ _ ∙ ap₂ (sizes .less) (size-hom .times _ _ ∙ ap₂ (sizes .times) (size-hom .opp x) sin-size) (size-hom .times _ _ ∙ ap₂ (sizes .times) refl cos-size)

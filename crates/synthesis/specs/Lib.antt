@@ -1,9 +1,11 @@
--- Definitions: Arithmetic, Recurrence, Sum. The rest are laws.
+-- Definitions: Arithmetic, Recurrence, Sum, and `Same` of Same. The rest are laws.
 pub mod Arithmetic
 pub mod Recurrence
 pub mod Sum
 pub mod Terms
 pub mod Sums
+pub mod Related
+pub mod Same
 pub mod Majorant
 pub mod Demand
 pub mod Code
