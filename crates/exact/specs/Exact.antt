@@ -1,7 +1,7 @@
 -- Exact numbers: (plus - minus) / over. Definitions only. Nothing is ever cancelled, so (plus + minus) / over is the majorant: the same sum
 -- with every number replaced by its size and every minus by plus.
 use Prim.Native.Nat.{ℕ, _+_, _*_, _/_, _^_}
-use mathlib.Core.Bool.{Bool, true, false}
+use mathlib.Core.Bool.{true, false}
 use lib.Ieee.{Float, nan, inf, fin, up, down}
 
 pub record Exact : Type 0 where

@@ -1,9 +1,8 @@
 -- The tests of floats that the checks of document 01 are made of: size, range, circle. Definitions only.
 -- `finite`, no NaN and no infinity, is lib.Ieee's own.
-use Prim.Native.Nat.{ℕ}
 use mathlib.Core.Bool.{Bool, true, false, _&&_}
 use mathlib.Core.List.{List, [], _∷_}
-use lib.Ieee.{Float, nan, inf, fin, binary32, add, mul, le, lt, ofBits}
+use lib.Ieee.{Float, nan, inf, fin, binary32, add, mul, le, ofBits}
 use lib.Ieee.Scale.{finite}
 
 -- the size of a float

@@ -3,7 +3,7 @@
 use mathlib.Core.Path.{_≡_, refl, ap}
 use mathlib.Core.List.{List, [], _∷_, _++_, map}
 use Prim.Native.Nat.{ℕ}
-use lib.IntN.{ℤ, pos, negsuc}
+use lib.IntN.{ℤ, pos}
 use lib.ListN.{replicate, set, getD}
 use lib.Ieee.{Float, binary32, ofBits, toBits, ofInt, round, sum, add, sub, mul, neg, div, lt, le, eq}
 use Rattle.exact.specs.Tests.{circle, capped}

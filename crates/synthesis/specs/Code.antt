@@ -1,4 +1,4 @@
--- What each function of the code computes, in the recurrences' terms. Definitions only; the entry's contract cites none of them.
+-- What each function of the code computes, in the recurrences' terms. Definitions only. The entry's contract cites `lent` alone.
 use mathlib.Core.List.{List, [], _∷_}
 use Prim.Native.Nat.{ℕ, zero, suc}
 use mathlib.Core.Bool.{Bool, _&&_, cond}
