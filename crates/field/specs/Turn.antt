@@ -1,4 +1,4 @@
--- The turn from geocentric to geodetic axes, over any arithmetic (docs/src, lib.rs, `new`). Definitions only.
+-- The turn from geocentric to geodetic axes, over any arithmetic (the Rust crate, lib.rs, `new`). Definitions only.
 -- c, s are the colatitude's pair, cp, sp the geodetic latitude's, x and z are X' and Z'.
 use lib.Ieee.{Float}
 use Rattle.geocentric.specs.declared.Geocentric.{Geocentric}

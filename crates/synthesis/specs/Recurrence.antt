@@ -1,4 +1,4 @@
--- The sums of the model, once, over any arithmetic (docs/src, synthesis.rs; WMM2025 TR, section 1.2). The order of every sum and product is the source's.
+-- The sums of the model, once, over any arithmetic (the Rust crate, synthesis.rs; WMM2025 TR, section 1.2). The order of every sum and product is the source's.
 -- Definitions only. N is the highest degree; M is how many orders the near-pole path runs over.
 use Prim.Native.Nat.{ℕ, zero, suc, _-_}
 use mathlib.Core.Bool.{_&&_, cond}

@@ -1,4 +1,4 @@
--- The two tables by their bits (docs/src, synthesis.rs). Definitions only.
+-- The two tables by their bits (the Rust crate, synthesis.rs). Definitions only.
 use Prim.Native.Nat.{ℕ}
 use mathlib.Core.List.{List, [], _∷_, map}
 use lib.ListN.{getD}
