@@ -35,9 +35,11 @@ use Rattle.field.specs.declared.grid.GridAnswer.{GridAnswer}
 use Rattle.field.specs.Field.{Asked, fieldSays}
 use Rattle.field.specs.Field as fields
 use Rattle.field.specs.Strengths.{hOf, fOf, strengthSaid, strengthSays, zoneSaid, zoneSays, uncertaintySays}
-use Rattle.field.specs.Grid.{gridSaid, gridSays}
+use Rattle.field.specs.Grid.{Variation, gridSaid, gridSays}
 use Rattle.field.proofs.Answers.{field-answer-one}
 use Rattle.field.proofs.StrengthLaws.{strength-one, zone-one, grid-one}
+use Rattle.refusals.specs.Paper.{Paper}
+use Rattle.ffi.specs.Told.{numberOf, result, entryPlace, yearsPlace, variationPlace}
 
 -- a contract that is an equation leaves one result
 same : {A : Type 0} (t r s : A) → r ≡ t → s ≡ t → r ≡ s
@@ -117,3 +119,19 @@ declination-uncertainty v y = strength-one (uncertaintySays v y)
 
 pub grid-variation : (lat lon d : Float) (r s : GridAnswer) → gridSaid r ≡ gridSays lat lon d → gridSaid s ≡ gridSays lat lon d → r ≡ s
 grid-variation lat lon d = grid-one (gridSays lat lon d)
+
+-- ---- ffi: the contract of every entry is one equation for its number and one for each place that it was lent, over one answer p
+pub number : {A : Type 0} (p : Paper A) (r s : ℕ) → r ≡ numberOf p → s ≡ numberOf p → r ≡ s
+number p = same (numberOf p)
+
+pub place : {A B : Type 0} (p : Paper A) (w : A → B) (held r s : B) → r ≡ result w held p → s ≡ result w held p → r ≡ s
+place p w held = same (result w held p)
+
+pub entry-place : {A : Type 0} (p : Paper A) (held r s : List ℕ) → r ≡ entryPlace held p → s ≡ entryPlace held p → r ≡ s
+entry-place p held = same (entryPlace held p)
+
+pub years-place : {A : Type 0} (p : Paper A) (held r s : List ℤ) → r ≡ yearsPlace held p → s ≡ yearsPlace held p → r ≡ s
+years-place p held = same (yearsPlace held p)
+
+pub variation-place : (p : Paper Variation) (held r s : Float) → r ≡ variationPlace held p → s ≡ variationPlace held p → r ≡ s
+variation-place p held = same (variationPlace held p)

@@ -1,0 +1,3 @@
+-- What the proofs of the entries share.
+mod Refused
+mod Answered

@@ -1,0 +1,2 @@
+-- What a caller in another language is told.
+pub mod Told

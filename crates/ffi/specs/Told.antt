@@ -1,0 +1,89 @@
+-- What a caller in another language is told of an answer: one number, and what the places hold that it lent for results. Definitions only.
+use mathlib.Core.Bool.{cond}
+use mathlib.Core.List.{List, [], _∷_}
+use Prim.Native.Nat.{ℕ}
+use lib.Dec.{eqb}
+use lib.IntN.{ℤ, pos, natAbs}
+use lib.ListN.{getD}
+use lib.Ieee.{Float, binary32, ofBits}
+use Rattle.refusals.specs.Paper.{Paper, answered, refused}
+use Rattle.models.specs.declared.epochs.EpochOffset.{EpochOffset}
+use Rattle.models.specs.declared.errors.WmmErrorModel.{WmmErrorModel}
+use Rattle.synthesis.specs.declared.Xyz.{Xyz}
+use Rattle.field.specs.declared.strengths.GeomagneticField.{GeomagneticField}
+use Rattle.field.specs.Strengths.{Warning, blackout, caution, no-zone}
+use Rattle.field.specs.Grid.{Variation, degrees, absent}
+
+-- ---- of any answer
+-- the number that is returned: 0 for an answer, and a refusal's own
+abbrev pub numberOf : {A : Type 0} → Paper A → ℕ
+numberOf (answered a) = 0
+numberOf (refused n f z) = n
+
+-- a result's place: the answer, as w writes it; where there is none it keeps what it held
+abbrev pub result : {A B : Type 0} → (A → B) → B → Paper A → B
+result w held (answered a) = w a
+result w held (refused n f z) = held
+
+-- the place for refusal 7's list and index
+abbrev pub entryPlace : {A : Type 0} → List ℕ → Paper A → List ℕ
+entryPlace held (answered a) = held
+entryPlace held (refused n f z) = cond (eqb n 7) (natAbs (getD z 0 (pos 0)) ∷ natAbs (getD z 1 (pos 0)) ∷ []) held
+
+-- the place for refusal 8's two years, the day's and the set's
+abbrev pub yearsPlace : {A : Type 0} → List ℤ → Paper A → List ℤ
+yearsPlace held (answered a) = held
+yearsPlace held (refused n f z) = cond (eqb n 8) z held
+
+-- ---- how each answer is written
+-- X', Y and Z', in this order
+abbrev pub sumFloats : Xyz → List Float
+sumFloats v = v .x ∷ v .y ∷ v .z ∷ []
+
+-- X, Y and Z, in this order
+abbrev pub fieldFloats : GeomagneticField → List Float
+fieldFloats v = v .x ∷ v .y ∷ v .z ∷ []
+
+-- the error figures, in the record's order
+abbrev pub errorFloats : GeomagneticField → List Float
+errorFloats v =
+    let e = v .error in
+    e .«declination_sigma_c» ∷ e .«declination_sigma_v» ∷ e .inclination ∷ e .f ∷ e .h ∷ e .x ∷ e .y ∷ e .z ∷ []
+
+-- a zone: 0 none, 1 blackout, 2 caution
+abbrev pub zoneNumber : Warning → ℕ
+zoneNumber blackout = 1
+zoneNumber caution = 2
+zoneNumber no-zone = 0
+
+-- an epoch's year and its offset
+abbrev pub yearOf : EpochOffset → ℤ
+yearOf e = e .«epoch_year»
+
+abbrev pub offsetOf : EpochOffset → Float
+offsetOf e = e .offset
+
+-- a strength, as it is
+abbrev pub itself : Float → Float
+itself x = x
+
+-- ---- grid variation: whether there is one, and the place for it, which keeps what it held where there is none
+abbrev pub isGiven : Variation → ℕ
+isGiven (degrees x) = 1
+isGiven absent = 0
+
+abbrev pub variationPlace : Float → Paper Variation → Float
+variationPlace held (answered (degrees x)) = x
+variationPlace held (answered absent) = held
+variationPlace held (refused n f z) = held
+
+-- ---- a record of three components alone; no strength reads its error figures
+abbrev pub bare : Float → Float → Float → GeomagneticField
+bare x y z =
+    let o = ofBits binary32 0 in
+    record {
+      x = x;
+      y = y;
+      z = z;
+      error = record { «declination_sigma_c» = o; «declination_sigma_v» = o; inclination = o; f = o; h = o; x = o; y = o; z = o };
+    }
