@@ -1,0 +1,232 @@
+//! The proved library beside the oracle's Rust, which makes the same checks: each row's answers are
+//! compared bit for bit, then timed in turn.
+//!
+//!   bench [ROUNDS]
+mod cases;
+
+use cases::{sets, Both, Components, FieldCase, Random, SumCase};
+use njerumoy::Field;
+use oracle::entries;
+use oracle::field::{GeomagneticField, WarningZone};
+use oracle::models::WMM_ERROR_MODELS;
+use std::env;
+use std::hint::black_box;
+use std::process::ExitCode;
+use std::time::Instant;
+
+const CASES: usize = 1000;
+const ROUNDS: usize = 301;
+
+/// An answer as bits. No case is refused; a refusal would be its number, and no bits.
+type Bits = Result<[u32; 3], u32>;
+
+fn bits(x: f32, y: f32, z: f32) -> Bits {
+    Ok([x.to_bits(), y.to_bits(), z.to_bits()])
+}
+
+/// The oracle's refusals carry no number: any of them counts as 99.
+fn refused<T>(_: T) -> u32 {
+    99
+}
+
+fn our_sum(case: &SumCase, sets: &[Both]) -> Bits {
+    let set = &sets[case.set].ours;
+    njerumoy::sum(case.theta, case.lambda, case.ratio, case.offset, set)
+        .map_err(|k| k.number())
+        .and_then(|v| bits(v.x, v.y, v.z))
+}
+
+fn rust_sum(case: &SumCase, sets: &[Both]) -> Bits {
+    let (theta, lambda) = (case.theta, case.lambda);
+    let lists = &sets[case.set].rust.lists;
+    entries::sum(
+        theta.cos,
+        theta.sin,
+        lambda.sin,
+        lambda.cos,
+        case.ratio,
+        case.offset,
+        lists,
+    )
+    .map_err(refused)
+    .and_then(|(x, y, z)| bits(x, y, z))
+}
+
+fn our_field(case: &FieldCase, sets: &[Both]) -> Bits {
+    njerumoy::field(
+        case.height,
+        case.phi,
+        case.lambda,
+        case.day,
+        &sets[case.set].ours,
+    )
+    .map_err(|k| k.number())
+    .and_then(|v| bits(v.x, v.y, v.z))
+}
+
+fn rust_field(case: &FieldCase, sets: &[Both]) -> Bits {
+    let (phi, lambda, day) = (case.phi, case.lambda, case.day);
+    let set = &sets[case.set].rust;
+    entries::field(
+        case.height,
+        phi.sin,
+        phi.cos,
+        lambda.sin,
+        lambda.cos,
+        day.year,
+        day.day_of_year,
+        set,
+    )
+    .map_err(refused)
+    .and_then(|v| bits(v.x, v.y, v.z))
+}
+
+fn our_strengths(case: &Components) -> Bits {
+    let [x, y, z] = *case;
+    let errors = njerumoy::Errors::default();
+    let field = Field { x, y, z, errors };
+    let told = |k: njerumoy::Refusal| k.number();
+    let zone = match field.zone().map_err(told)? {
+        None => 0,
+        Some(njerumoy::Zone::Blackout) => 1,
+        Some(njerumoy::Zone::Caution) => 2,
+    };
+    let (h, f) = (field.h().map_err(told)?, field.f().map_err(told)?);
+    Ok([h.to_bits(), f.to_bits(), zone])
+}
+
+fn rust_strengths(case: &Components) -> Bits {
+    let [x, y, z] = *case;
+    let error_model = WMM_ERROR_MODELS[0];
+    let field = GeomagneticField {
+        x,
+        y,
+        z,
+        error_model,
+    };
+    let zone = match entries::zone(&field).map_err(refused)? {
+        None => 0,
+        Some(WarningZone::BlackoutZone) => 1,
+        Some(WarningZone::CautionZone) => 2,
+    };
+    let h = entries::horizontal(&field).map_err(refused)?;
+    let f = entries::total(&field).map_err(refused)?;
+    Ok([h.to_bits(), f.to_bits(), zone])
+}
+
+fn our_root(x: &f32) -> Bits {
+    njerumoy::square_root(*x)
+        .map_err(|k| k.number())
+        .and_then(|r| bits(r, 0.0, 0.0))
+}
+
+fn rust_root(x: &f32) -> Bits {
+    entries::square_root(*x)
+        .map_err(refused)
+        .and_then(|r| bits(r, 0.0, 0.0))
+}
+
+/// Nanoseconds a call, over all cases once.
+fn time<T>(cases: &[T], call: impl Fn(&T) -> Bits) -> f64 {
+    let began = Instant::now();
+    for case in cases {
+        let _ = black_box(call(black_box(case)));
+    }
+    began.elapsed().as_nanos() as f64 / cases.len() as f64
+}
+
+fn median(mut times: Vec<f64>) -> f64 {
+    times.sort_by(f64::total_cmp);
+    times[times.len() / 2]
+}
+
+/// Compares the bits, then times both sides in turn, the first of the two changing from round to
+/// round. Gives whether the bits agree.
+fn row<T>(
+    name: &str,
+    rounds: usize,
+    cases: &[T],
+    ours: impl Fn(&T) -> Bits,
+    rust: impl Fn(&T) -> Bits,
+) -> bool {
+    let differing = cases
+        .iter()
+        .filter(|case| ours(case).is_err() || ours(case) != rust(case))
+        .count();
+    let (mut our_times, mut rust_times) = (Vec::new(), Vec::new());
+    for round in 0..rounds {
+        if round % 2 == 0 {
+            our_times.push(time(cases, &ours));
+            rust_times.push(time(cases, &rust));
+        } else {
+            rust_times.push(time(cases, &rust));
+            our_times.push(time(cases, &ours));
+        }
+    }
+    let (ours, rust) = (median(our_times), median(rust_times));
+    let ratio = ours / rust;
+    println!(
+        "{name:<20} {ours:>9.1} {rust:>9.1} {ratio:>7.3}   {differing} of {} differ",
+        cases.len()
+    );
+    differing == 0
+}
+
+fn main() -> ExitCode {
+    let rounds = match env::args().nth(1).map(|word| word.parse()) {
+        None => ROUNDS,
+        Some(Ok(rounds)) if rounds > 0 => rounds,
+        Some(_) => {
+            eprintln!("bench [ROUNDS]");
+            return ExitCode::from(2);
+        }
+    };
+    let sets = sets();
+    let mut random = Random::new();
+    let general = random.sums(CASES, 0.1, 179.9);
+    let near_pole = random.sums(CASES, 0.0, 0.05);
+    let fields = random.fields(CASES);
+    let components = random.components(CASES);
+    let numbers = random.numbers(CASES);
+    println!(
+        "{:<20} {:>9} {:>9} {:>7}   bits",
+        "", "ours ns", "Rust ns", "ratio"
+    );
+    let same = [
+        row(
+            "Sum, general",
+            rounds,
+            &general,
+            |c| our_sum(c, &sets),
+            |c| rust_sum(c, &sets),
+        ),
+        row(
+            "Sum, near the pole",
+            rounds,
+            &near_pole,
+            |c| our_sum(c, &sets),
+            |c| rust_sum(c, &sets),
+        ),
+        row(
+            "Field",
+            rounds,
+            &fields,
+            |c| our_field(c, &sets),
+            |c| rust_field(c, &sets),
+        ),
+        row(
+            "H, F and zone",
+            rounds,
+            &components,
+            our_strengths,
+            rust_strengths,
+        ),
+        row("square root", rounds, &numbers, our_root, rust_root),
+    ];
+    if same.iter().all(|same| *same) {
+        ExitCode::SUCCESS
+    } else {
+        println!("bench: the bits are not the same");
+        ExitCode::FAILURE
+    }
+}

@@ -1,0 +1,239 @@
+/* Tests of the library through its C header: answers, refusals in their order, what they carry, and
+ * that a place keeps what it held where the call has no result for it. tools/test-library runs it. */
+#include <math.h>
+#include <stdio.h>
+#include <string.h>
+
+#include "njerumoy.h"
+#include "njerumoy_published.h"
+
+#define N NJERUMOY_LIST_LENGTH
+
+static int checks, failures;
+
+static void check(int holds, int line, const char *what) {
+    checks++;
+    if (!holds) {
+        failures++;
+        printf("test.c:%d: %s\n", line, what);
+    }
+}
+
+#define CHECK(x) check((x), __LINE__, #x)
+
+/* What stands in a place before a call. */
+static const float HELD = 12345.5f;
+static const size_t HELD_SIZE = 777;
+static const int32_t HELD_YEAR = -77;
+
+struct field {
+    float height, sin_phi, cos_phi, sin_lambda, cos_lambda;
+    int32_t year, day, epoch;
+    float lists[4][N];
+    size_t lengths[4];
+    float xyz[3], errors[8];
+    size_t entry[2];
+    int32_t years[2];
+};
+
+/* 80 north, 0 east, sea level, the first day of 2025: an accepted question. */
+static struct field question(void) {
+    struct field q;
+    const float phi = 80.0f * 0.017453292519943295f;
+    q.height = 0.0f;
+    q.sin_phi = sinf(phi);
+    q.cos_phi = cosf(phi);
+    q.sin_lambda = 0.0f;
+    q.cos_lambda = 1.0f;
+    q.year = 2025;
+    q.day = 1;
+    q.epoch = 2025;
+    memcpy(q.lists[0], njerumoy_wmm2025_g, sizeof q.lists[0]);
+    memcpy(q.lists[1], njerumoy_wmm2025_h, sizeof q.lists[1]);
+    memcpy(q.lists[2], njerumoy_wmm2025_g_dot, sizeof q.lists[2]);
+    memcpy(q.lists[3], njerumoy_wmm2025_h_dot, sizeof q.lists[3]);
+    for (int i = 0; i < 4; i++) q.lengths[i] = N;
+    for (int i = 0; i < 3; i++) q.xyz[i] = HELD;
+    for (int i = 0; i < 8; i++) q.errors[i] = HELD;
+    for (int i = 0; i < 2; i++) q.entry[i] = HELD_SIZE;
+    for (int i = 0; i < 2; i++) q.years[i] = HELD_YEAR;
+    return q;
+}
+
+static uint32_t ask(struct field *q) {
+    return njerumoy_field(q->height, q->sin_phi, q->cos_phi, q->sin_lambda, q->cos_lambda, q->year,
+                          q->day, q->epoch, q->lists[0], q->lengths[0], q->lists[1], q->lengths[1],
+                          q->lists[2], q->lengths[2], q->lists[3], q->lengths[3], q->xyz, q->errors,
+                          q->entry, q->years);
+}
+
+static int near(float x, double printed, double digit) {
+    return fabs((double)x - printed) <= digit / 2;
+}
+
+static int kept_results(const struct field *q) {
+    int kept = 1;
+    for (int i = 0; i < 3; i++) kept = kept && q->xyz[i] == HELD;
+    for (int i = 0; i < 8; i++) kept = kept && q->errors[i] == HELD;
+    return kept;
+}
+
+static int kept_entry(const struct field *q) {
+    return q->entry[0] == HELD_SIZE && q->entry[1] == HELD_SIZE;
+}
+
+static int kept_years(const struct field *q) {
+    return q->years[0] == HELD_YEAR && q->years[1] == HELD_YEAR;
+}
+
+/* Nothing is written but what the refusal carries. */
+static int refused(struct field *q, uint32_t number) {
+    return ask(q) == number && kept_results(q) && (number == 7 || kept_entry(q)) &&
+           (number == 8 || kept_years(q));
+}
+
+static void test_field(void) {
+    struct field q = question();
+    CHECK(ask(&q) == 0);
+    CHECK(near(q.xyz[0], 6521.6, 0.1) && near(q.xyz[1], 145.9, 0.1) && near(q.xyz[2], 54791.5, 0.1));
+    CHECK(q.errors[NJERUMOY_ERROR_SIGMA_C] == 0.26f && q.errors[NJERUMOY_ERROR_SIGMA_V] == 5417.0f);
+    CHECK(q.errors[NJERUMOY_ERROR_INCLINATION] == 0.20f && q.errors[NJERUMOY_ERROR_F] == 138.0f);
+    CHECK(q.errors[NJERUMOY_ERROR_H] == 133.0f && q.errors[NJERUMOY_ERROR_X] == 137.0f);
+    CHECK(q.errors[NJERUMOY_ERROR_Y] == 89.0f && q.errors[NJERUMOY_ERROR_Z] == 141.0f);
+    CHECK(kept_entry(&q) && kept_years(&q));
+}
+
+/* From the last refusal to the first: each hides those after it. */
+static void test_field_refusals(void) {
+    struct field q = question();
+    q.epoch = 2020;
+    CHECK(refused(&q, 8) && q.years[0] == 2025 && q.years[1] == 2020);
+    q = question();
+    q.epoch = 2020;
+    q.lists[3][89] = -4097.0f;
+    CHECK(refused(&q, 7) && q.entry[0] == 3 && q.entry[1] == 89);
+    q.lists[1][4] = INFINITY;
+    CHECK(refused(&q, 7) && q.entry[0] == 1 && q.entry[1] == 4);
+    q.lists[0][0] = NAN;
+    CHECK(refused(&q, 7) && q.entry[0] == 0 && q.entry[1] == 0);
+    q.entry[0] = q.entry[1] = HELD_SIZE;
+    q.lengths[2] = 89;
+    CHECK(refused(&q, 6));
+    q.lengths[2] = 0;
+    CHECK(refused(&q, 6));
+    q.epoch = 2021;
+    CHECK(refused(&q, 5));
+    q.year = 2030;
+    CHECK(refused(&q, 5));
+    q.day = 366;
+    CHECK(refused(&q, 4));
+    q.cos_lambda = 0.5f;
+    CHECK(refused(&q, 3));
+    q.cos_phi = -q.cos_phi;
+    CHECK(refused(&q, 2));
+    q.height = 850001.0f;
+    CHECK(refused(&q, 1));
+    q.height = NAN;
+    CHECK(refused(&q, 1));
+}
+
+/* One coefficient, g or h, at a colatitude and longitude 0: the papers' worked examples. */
+static uint32_t one(int list, int index, float value, float cos_theta, float sin_theta, float xyz[3]) {
+    static const float none[N];
+    float lists[2][N] = {{0}};
+    size_t entry[2];
+    lists[list][index] = value;
+    return njerumoy_sum(cos_theta, sin_theta, 0.0f, 1.0f, 1.0f, 0.0f, lists[0], N, lists[1], N, none,
+                        N, none, N, xyz, entry);
+}
+
+static void test_sum(void) {
+    float xyz[3];
+    CHECK(one(0, 0, -30000.0f, 0.0f, 1.0f, xyz) == 0);
+    CHECK(xyz[0] == -30000.0f && xyz[1] == 0.0f && xyz[2] == 0.0f);
+    CHECK(one(0, 0, -30000.0f, 1.0f, 0.0f, xyz) == 0);
+    CHECK(xyz[0] == 0.0f && xyz[1] == 0.0f && xyz[2] == -60000.0f);
+    CHECK(one(1, 1, 4500.0f, 0.0f, 1.0f, xyz) == 0);
+    CHECK(xyz[0] == 0.0f && xyz[1] == -4500.0f && xyz[2] == 0.0f);
+    xyz[0] = xyz[1] = xyz[2] = HELD;
+    CHECK(one(0, 0, 65537.0f, 0.0f, 1.0f, xyz) == 7);
+    CHECK(one(0, 0, 1.0f, 0.5f, 0.5f, xyz) == 9);
+    CHECK(xyz[0] == HELD && xyz[1] == HELD && xyz[2] == HELD);
+}
+
+static uint32_t epoch(int32_t year, int32_t day, int32_t *epoch_year, float *offset) {
+    *epoch_year = HELD_YEAR;
+    *offset = HELD;
+    return njerumoy_epoch(year, day, epoch_year, offset);
+}
+
+static void test_epoch(void) {
+    int32_t year;
+    float offset;
+    CHECK(epoch(2024, 184, &year, &offset) == 0 && year == 2020 && offset == 4.5f);
+    CHECK(epoch(2020, 1, &year, &offset) == 0 && year == 2020 && offset == 0.0f);
+    CHECK(epoch(2029, 365, &year, &offset) == 0 && year == 2025);
+    CHECK(epoch(2024, 366, &year, &offset) == 0);
+    CHECK(epoch(2019, 365, &year, &offset) == 5 && year == HELD_YEAR && offset == HELD);
+    CHECK(epoch(2030, 1, &year, &offset) == 5);
+    CHECK(epoch(2025, 366, &year, &offset) == 4);
+    CHECK(epoch(INT32_MIN, 0, &year, &offset) == 4);
+    CHECK(epoch(INT32_MAX, 1, &year, &offset) == 5);
+}
+
+static void test_strengths(void) {
+    float h = HELD, f = HELD, u = HELD;
+    uint32_t zone = 9;
+    CHECK(njerumoy_horizontal(1200.0f, 1600.0f, 0.0f, &h) == 0 && h == 2000.0f);
+    CHECK(njerumoy_total(1200.0f, 1600.0f, 1500.0f, &f) == 0 && f == 2500.0f);
+    CHECK(njerumoy_zone(1200.0f, 1600.0f, 0.0f, &zone) == 0 && zone == NJERUMOY_CAUTION_ZONE);
+    CHECK(njerumoy_zone(3600.0f, 4800.0f, 0.0f, &zone) == 0 && zone == NJERUMOY_NO_ZONE);
+    CHECK(njerumoy_zone(0.0f, 1999.0f, 0.0f, &zone) == 0 && zone == NJERUMOY_BLACKOUT_ZONE);
+    CHECK(njerumoy_declination_uncertainty(0.0f, 0.0f, 50000.0f, 2025, &u) == 0 && u == 180.0f);
+    h = f = u = HELD;
+    zone = 9;
+    CHECK(njerumoy_horizontal(1.0f, 1.0f, NAN, &h) == 12 && h == HELD);
+    CHECK(njerumoy_total(1.0f, INFINITY, 1.0f, &f) == 12 && f == HELD);
+    CHECK(njerumoy_zone(NAN, 1.0f, 1.0f, &zone) == 12 && zone == 9);
+    CHECK(njerumoy_declination_uncertainty(NAN, 1.0f, 1.0f, 2024, &u) == 5 && u == HELD);
+    CHECK(njerumoy_declination_uncertainty(NAN, 1.0f, 1.0f, 2020, &u) == 12 && u == HELD);
+}
+
+static void test_grid(void) {
+    uint32_t given = 9;
+    float v = HELD;
+    CHECK(njerumoy_grid_variation(60.0f, -100.0f, 90.0f, &given, &v) == 0);
+    CHECK(given == 1 && v == -170.0f);
+    CHECK(njerumoy_grid_variation(-60.0f, -100.0f, -90.0f, &given, &v) == 0);
+    CHECK(given == 1 && v == 170.0f);
+    CHECK(njerumoy_grid_variation(55.0f, 10.0f, 30.0f, &given, &v) == 0);
+    CHECK(given == 1 && v == 20.0f);
+    v = HELD;
+    CHECK(njerumoy_grid_variation(54.0f, 10.0f, 30.0f, &given, &v) == 0 && given == 0 && v == HELD);
+    given = 9;
+    CHECK(njerumoy_grid_variation(91.0f, 181.0f, NAN, &given, &v) == 2);
+    CHECK(njerumoy_grid_variation(90.0f, 181.0f, NAN, &given, &v) == 3);
+    CHECK(njerumoy_grid_variation(90.0f, 180.0f, NAN, &given, &v) == 12 && given == 9 && v == HELD);
+}
+
+static void test_root(void) {
+    float r = HELD;
+    CHECK(njerumoy_square_root(-1.0f, &r) == 12 && r == HELD);
+    CHECK(njerumoy_square_root(NAN, &r) == 12 && r == HELD);
+    CHECK(njerumoy_square_root(2.0f, &r) == 0 && r == sqrtf(2.0f));
+    CHECK(njerumoy_square_root(1e-45f, &r) == 0 && r == sqrtf(1e-45f));
+    CHECK(njerumoy_square_root(INFINITY, &r) == 0 && r == INFINITY);
+    CHECK(njerumoy_square_root(-0.0f, &r) == 0 && r == 0.0f && signbit(r));
+}
+
+int main(void) {
+    test_field();
+    test_field_refusals();
+    test_sum();
+    test_epoch();
+    test_strengths();
+    test_grid();
+    test_root();
+    printf("%d checks, %d failures\n", checks, failures);
+    return failures != 0;
+}

@@ -1,0 +1,284 @@
+//! The World Magnetic Model's numeric core, proved in Rattle. This crate is the safe Rust side of
+//! the library that tools/build-library builds; include/njerumoy.h says what each call asks and
+//! answers. It needs no standard library and no other crate.
+//!
+//! Sines and cosines are the caller's: lend those of one angle, as `Pair { sin, cos }`.
+#![no_std]
+
+pub mod published;
+mod refusal;
+mod sys;
+
+pub use refusal::{List, Refusal};
+
+/// Sine and cosine of one angle.
+#[derive(Copy, Clone, Debug, PartialEq)]
+pub struct Pair {
+    pub sin: f32,
+    pub cos: f32,
+}
+
+/// A day: a year, and the day of that year from 1.
+#[derive(Copy, Clone, Debug, PartialEq, Eq)]
+pub struct Day {
+    pub year: i32,
+    pub day_of_year: i32,
+}
+
+/// A coefficient set: its epoch year, and four lists of 90. The coefficient of degree n and order m
+/// stands at n (n + 1) / 2 + m - 1. Lists of other lengths are refused.
+#[derive(Copy, Clone, Debug)]
+pub struct Set<'a> {
+    pub epoch_year: i32,
+    /// Coefficients [nT].
+    pub g: &'a [f32],
+    pub h: &'a [f32],
+    /// Their rates [nT a year].
+    pub g_dot: &'a [f32],
+    pub h_dot: &'a [f32],
+}
+
+/// The error figures of a model: strengths in nT, the inclination in degrees. The declination's
+/// error is the root of the squares of sigma_c and sigma_v / H.
+#[derive(Copy, Clone, Debug, Default, PartialEq)]
+pub struct Errors {
+    pub declination_sigma_c: f32,
+    pub declination_sigma_v: f32,
+    pub inclination: f32,
+    pub f: f32,
+    pub h: f32,
+    pub x: f32,
+    pub y: f32,
+    pub z: f32,
+}
+
+/// The field at a place and a day [nT], with the error figures of the model that answered.
+#[derive(Copy, Clone, Debug, PartialEq)]
+pub struct Field {
+    /// North.
+    pub x: f32,
+    /// East.
+    pub y: f32,
+    /// Down.
+    pub z: f32,
+    pub errors: Errors,
+}
+
+/// X', Y and Z' of `sum` [nT]: X' south, Y east, Z' up, along the geocentric axes.
+#[derive(Copy, Clone, Debug, PartialEq)]
+pub struct Sums {
+    pub x: f32,
+    pub y: f32,
+    pub z: f32,
+}
+
+/// The epoch year of a day, and the years since then.
+#[derive(Copy, Clone, Debug, PartialEq)]
+pub struct Epoch {
+    pub year: i32,
+    pub offset: f32,
+}
+
+/// Where the declination is not to be trusted.
+#[derive(Copy, Clone, Debug, PartialEq, Eq)]
+pub enum Zone {
+    /// H below 2000 nT.
+    Blackout,
+    /// H from 2000 nT on and below 6000 nT.
+    Caution,
+}
+
+/// The refusal of a call that lends no place for what a refusal carries.
+#[inline]
+fn checked(number: u32) -> Result<(), Refusal> {
+    match number {
+        0 => Ok(()),
+        _ => Err(Refusal::of(number, [0; 2], [0; 2])),
+    }
+}
+
+/// The field at a height [m], a geodetic latitude, a longitude and a day. Refusals 1, 2, 3, 4, 5, 6,
+/// 7, 8.
+#[inline]
+pub fn field(
+    height: f32,
+    latitude: Pair,
+    longitude: Pair,
+    day: Day,
+    set: &Set,
+) -> Result<Field, Refusal> {
+    let (mut xyz, mut errors) = ([0.0; 3], [0.0; 8]);
+    let (mut entry, mut years) = ([0; 2], [0; 2]);
+    // SAFETY: each pointer and length are those of one slice, and the places are four locals.
+    let number = unsafe {
+        sys::njerumoy_field(
+            height,
+            latitude.sin,
+            latitude.cos,
+            longitude.sin,
+            longitude.cos,
+            day.year,
+            day.day_of_year,
+            set.epoch_year,
+            set.g.as_ptr(),
+            set.g.len(),
+            set.h.as_ptr(),
+            set.h.len(),
+            set.g_dot.as_ptr(),
+            set.g_dot.len(),
+            set.h_dot.as_ptr(),
+            set.h_dot.len(),
+            &mut xyz,
+            &mut errors,
+            &mut entry,
+            &mut years,
+        )
+    };
+    if number != 0 {
+        return Err(Refusal::of(number, entry, years));
+    }
+    Ok(Field {
+        x: xyz[0],
+        y: xyz[1],
+        z: xyz[2],
+        errors: Errors {
+            declination_sigma_c: errors[0],
+            declination_sigma_v: errors[1],
+            inclination: errors[2],
+            f: errors[3],
+            h: errors[4],
+            x: errors[5],
+            y: errors[6],
+            z: errors[7],
+        },
+    })
+}
+
+/// The sums over degree and order at a geocentric colatitude, a longitude, a radius ratio and an
+/// offset in years from the set's epoch. Refusals 9, 3, 10, 11, 6, 7. The set's year is not asked.
+#[inline]
+pub fn sum(
+    colatitude: Pair,
+    longitude: Pair,
+    ratio: f32,
+    offset: f32,
+    set: &Set,
+) -> Result<Sums, Refusal> {
+    let (mut xyz, mut entry) = ([0.0; 3], [0; 2]);
+    // SAFETY: each pointer and length are those of one slice, and the places are two locals.
+    let number = unsafe {
+        sys::njerumoy_sum(
+            colatitude.cos,
+            colatitude.sin,
+            longitude.sin,
+            longitude.cos,
+            ratio,
+            offset,
+            set.g.as_ptr(),
+            set.g.len(),
+            set.h.as_ptr(),
+            set.h.len(),
+            set.g_dot.as_ptr(),
+            set.g_dot.len(),
+            set.h_dot.as_ptr(),
+            set.h_dot.len(),
+            &mut xyz,
+            &mut entry,
+        )
+    };
+    if number != 0 {
+        return Err(Refusal::of(number, entry, [0; 2]));
+    }
+    Ok(Sums {
+        x: xyz[0],
+        y: xyz[1],
+        z: xyz[2],
+    })
+}
+
+/// The epoch of a day. Refusals 4, 5.
+#[inline]
+pub fn epoch(day: Day) -> Result<Epoch, Refusal> {
+    let (mut year, mut offset) = (0, 0.0);
+    // SAFETY: the places are two locals.
+    checked(unsafe { sys::njerumoy_epoch(day.year, day.day_of_year, &mut year, &mut offset) })?;
+    Ok(Epoch { year, offset })
+}
+
+impl Field {
+    /// The horizontal strength H [nT]. Refusal 12.
+    #[inline]
+    pub fn h(&self) -> Result<f32, Refusal> {
+        let mut h = 0.0;
+        // SAFETY: the place is a local. So it is in the three functions below.
+        checked(unsafe { sys::njerumoy_horizontal(self.x, self.y, self.z, &mut h) })?;
+        Ok(h)
+    }
+
+    /// The total strength F [nT]. Refusal 12.
+    #[inline]
+    pub fn f(&self) -> Result<f32, Refusal> {
+        let mut f = 0.0;
+        checked(unsafe { sys::njerumoy_total(self.x, self.y, self.z, &mut f) })?;
+        Ok(f)
+    }
+
+    /// The warning zone, if there is one. Refusal 12.
+    #[inline]
+    pub fn zone(&self) -> Result<Option<Zone>, Refusal> {
+        let mut zone = 0;
+        checked(unsafe { sys::njerumoy_zone(self.x, self.y, self.z, &mut zone) })?;
+        Ok(match zone {
+            1 => Some(Zone::Blackout),
+            2 => Some(Zone::Caution),
+            _ => None,
+        })
+    }
+
+    /// The uncertainty of the declination [degrees] by the figures of an epoch year, whatever
+    /// `errors` holds. Refusals 5, 12.
+    #[inline]
+    pub fn declination_uncertainty(&self, epoch_year: i32) -> Result<f32, Refusal> {
+        let mut uncertainty = 0.0;
+        checked(unsafe {
+            sys::njerumoy_declination_uncertainty(
+                self.x,
+                self.y,
+                self.z,
+                epoch_year,
+                &mut uncertainty,
+            )
+        })?;
+        Ok(uncertainty)
+    }
+}
+
+/// Grid variation [degrees], or none between 55 degrees south and 55 north. Refusals 2, 3, 12.
+#[inline]
+pub fn grid_variation(
+    latitude_deg: f32,
+    longitude_deg: f32,
+    declination_deg: f32,
+) -> Result<Option<f32>, Refusal> {
+    let (mut given, mut variation) = (0, 0.0);
+    // SAFETY: the places are two locals.
+    checked(unsafe {
+        sys::njerumoy_grid_variation(
+            latitude_deg,
+            longitude_deg,
+            declination_deg,
+            &mut given,
+            &mut variation,
+        )
+    })?;
+    Ok((given == 1).then_some(variation))
+}
+
+/// The correctly rounded square root. Refusal 12 for a NaN and for a number below zero.
+#[inline]
+pub fn square_root(x: f32) -> Result<f32, Refusal> {
+    let mut root = 0.0;
+    // SAFETY: the place is a local.
+    checked(unsafe { sys::njerumoy_square_root(x, &mut root) })?;
+    Ok(root)
+}

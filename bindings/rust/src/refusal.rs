@@ -1,0 +1,148 @@
+//! Why a call gives no answer.
+use crate::Day;
+use core::fmt;
+
+/// Which of the four lists of a set.
+#[derive(Copy, Clone, Debug, PartialEq, Eq)]
+pub enum List {
+    G,
+    H,
+    GDot,
+    HDot,
+}
+
+impl fmt::Display for List {
+    fn fmt(&self, f: &mut fmt::Formatter<'_>) -> fmt::Result {
+        f.write_str(match self {
+            List::G => "g",
+            List::H => "h",
+            List::GDot => "g_dot",
+            List::HDot => "h_dot",
+        })
+    }
+}
+
+/// A refusal, with what it carries. `number` gives the number that C sees.
+#[derive(Copy, Clone, Debug, PartialEq)]
+pub enum Refusal {
+    /// 1: the two limits, in kilometres.
+    Height { min_km: f32, max_km: f32 },
+    /// 2
+    Latitude,
+    /// 3
+    Longitude,
+    /// 4
+    DayOfYear,
+    /// 5: the first and the last day that the models serve.
+    EpochYear { first: Day, last: Day },
+    /// 6
+    Length,
+    /// 7: the list and the index from 0.
+    Coefficient { list: List, index: usize },
+    /// 8: the epoch years of the day and of the set.
+    OtherEpoch { of_day: i32, of_set: i32 },
+    /// 9
+    Colatitude,
+    /// 10
+    Ratio,
+    /// 11
+    Offset,
+    /// 12
+    Unusable,
+}
+
+impl Refusal {
+    /// The refusal of a number that is not 0, with the places that its call lent for what a refusal
+    /// carries.
+    #[cold]
+    pub(crate) fn of(number: u32, entry: [usize; 2], years: [i32; 2]) -> Refusal {
+        match number {
+            1 => Refusal::Height {
+                min_km: -1.0,
+                max_km: 850.0,
+            },
+            2 => Refusal::Latitude,
+            3 => Refusal::Longitude,
+            4 => Refusal::DayOfYear,
+            5 => Refusal::EpochYear {
+                first: Day {
+                    year: 2020,
+                    day_of_year: 1,
+                },
+                last: Day {
+                    year: 2029,
+                    day_of_year: 365,
+                },
+            },
+            6 => Refusal::Length,
+            7 => Refusal::Coefficient {
+                list: match entry[0] {
+                    0 => List::G,
+                    1 => List::H,
+                    2 => List::GDot,
+                    _ => List::HDot,
+                },
+                index: entry[1],
+            },
+            8 => Refusal::OtherEpoch {
+                of_day: years[0],
+                of_set: years[1],
+            },
+            9 => Refusal::Colatitude,
+            10 => Refusal::Ratio,
+            11 => Refusal::Offset,
+            _ => Refusal::Unusable,
+        }
+    }
+
+    /// The number, 1 to 12.
+    pub fn number(&self) -> u32 {
+        match self {
+            Refusal::Height { .. } => 1,
+            Refusal::Latitude => 2,
+            Refusal::Longitude => 3,
+            Refusal::DayOfYear => 4,
+            Refusal::EpochYear { .. } => 5,
+            Refusal::Length => 6,
+            Refusal::Coefficient { .. } => 7,
+            Refusal::OtherEpoch { .. } => 8,
+            Refusal::Colatitude => 9,
+            Refusal::Ratio => 10,
+            Refusal::Offset => 11,
+            Refusal::Unusable => 12,
+        }
+    }
+}
+
+impl fmt::Display for Refusal {
+    fn fmt(&self, f: &mut fmt::Formatter<'_>) -> fmt::Result {
+        match self {
+            Refusal::Height { min_km, max_km } => {
+                write!(f, "the height is not from {min_km} to {max_km} km")
+            }
+            Refusal::Latitude => f.write_str("the latitude is no latitude"),
+            Refusal::Longitude => f.write_str("the longitude is no longitude"),
+            Refusal::DayOfYear => f.write_str("that year has no such day"),
+            Refusal::EpochYear { first, last } => write!(
+                f,
+                "no model serves that day or that epoch year: the models serve from day {} of {} to day {} of {}",
+                first.day_of_year, first.year, last.day_of_year, last.year
+            ),
+            Refusal::Length => f.write_str("a list of coefficients is not 90 long"),
+            Refusal::Coefficient { list, index } => write!(
+                f,
+                "the coefficient at index {index} of {list} is not finite or is too large"
+            ),
+            Refusal::OtherEpoch { of_day, of_set } => write!(
+                f,
+                "the day belongs to the epoch {of_day}, and the set to the epoch {of_set}"
+            ),
+            Refusal::Colatitude => f.write_str("the colatitude is no colatitude"),
+            Refusal::Ratio => f.write_str("the radius ratio is not from 0.875 to 1.015625"),
+            Refusal::Offset => f.write_str("the offset is not from 0 to 5 years"),
+            Refusal::Unusable => f.write_str("a number cannot be used: not finite, or out of range"),
+        }
+    }
+}
+
+impl core::error::Error for Refusal {}

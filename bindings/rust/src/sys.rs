@@ -1,0 +1,77 @@
+//! The functions of the library, as include/njerumoy.h declares them. A list is a pointer and a
+//! length; what C declares as an array is a reference to one.
+
+extern "C" {
+    pub fn njerumoy_field(
+        height: f32,
+        sin_phi: f32,
+        cos_phi: f32,
+        sin_lambda: f32,
+        cos_lambda: f32,
+        year: i32,
+        day_of_year: i32,
+        epoch_year: i32,
+        g: *const f32,
+        g_length: usize,
+        h: *const f32,
+        h_length: usize,
+        g_dot: *const f32,
+        g_dot_length: usize,
+        h_dot: *const f32,
+        h_dot_length: usize,
+        xyz: &mut [f32; 3],
+        errors: &mut [f32; 8],
+        entry: &mut [usize; 2],
+        years: &mut [i32; 2],
+    ) -> u32;
+
+    pub fn njerumoy_sum(
+        cos_theta: f32,
+        sin_theta: f32,
+        sin_lambda: f32,
+        cos_lambda: f32,
+        ratio: f32,
+        offset: f32,
+        g: *const f32,
+        g_length: usize,
+        h: *const f32,
+        h_length: usize,
+        g_dot: *const f32,
+        g_dot_length: usize,
+        h_dot: *const f32,
+        h_dot_length: usize,
+        xyz: &mut [f32; 3],
+        entry: &mut [usize; 2],
+    ) -> u32;
+
+    pub fn njerumoy_epoch(
+        year: i32,
+        day_of_year: i32,
+        epoch_year: &mut i32,
+        offset: &mut f32,
+    ) -> u32;
+
+    pub fn njerumoy_horizontal(x: f32, y: f32, z: f32, h: &mut f32) -> u32;
+
+    pub fn njerumoy_total(x: f32, y: f32, z: f32, f: &mut f32) -> u32;
+
+    pub fn njerumoy_zone(x: f32, y: f32, z: f32, zone: &mut u32) -> u32;
+
+    pub fn njerumoy_declination_uncertainty(
+        x: f32,
+        y: f32,
+        z: f32,
+        epoch_year: i32,
+        uncertainty: &mut f32,
+    ) -> u32;
+
+    pub fn njerumoy_grid_variation(
+        latitude_deg: f32,
+        longitude_deg: f32,
+        declination_deg: f32,
+        given: &mut u32,
+        variation: &mut f32,
+    ) -> u32;
+
+    pub fn njerumoy_square_root(x: f32, root: &mut f32) -> u32;
+}

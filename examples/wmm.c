@@ -1,0 +1,131 @@
+/* The field at a place and a day, for people. The command ./wmm builds and runs it; ./wmm --help says
+ * what its words mean. Sines, cosines and the declination are the C library's; the sets are the
+ * published ones. */
+#include <errno.h>
+#include <math.h>
+#include <stdio.h>
+#include <stdlib.h>
+
+#include "njerumoy.h"
+#include "njerumoy_published.h"
+
+static const float DEGREE = 0.017453292519943295f; /* in radians */
+
+static const char USAGE[] = "usage: ./wmm LAT LON HEIGHT_M YEAR DAY   (./wmm --help says more)\n";
+
+static const char *const WORDS[] = {
+    "an answer",
+    "the height is not from -1 to 850 km",
+    "the latitude is no latitude",
+    "the longitude is no longitude",
+    "that year has no such day",
+    "no model serves that day: the models serve from day 1 of 2020 to day 365 of 2029",
+    "a list of coefficients is not 90 long",
+    "a coefficient is not finite or is too large",
+    "the set of coefficients belongs to another epoch than the day",
+    "the colatitude is no colatitude",
+    "the radius ratio is not from 0.875 to 1.015625",
+    "the offset is not from 0 to 5 years",
+    "a number cannot be used: not finite, or out of range",
+};
+
+struct set {
+    const float *g, *h, *g_dot, *h_dot;
+};
+
+static const struct set SETS[2] = {
+    {njerumoy_wmm2020_g, njerumoy_wmm2020_h, njerumoy_wmm2020_g_dot, njerumoy_wmm2020_h_dot},
+    {njerumoy_wmm2025_g, njerumoy_wmm2025_h, njerumoy_wmm2025_g_dot, njerumoy_wmm2025_h_dot},
+};
+
+/* What is printed. */
+struct shown {
+    float xyz[3], errors[8], h, f, d, d_uncertainty, variation;
+    uint32_t zone, given;
+    int32_t epoch_year;
+};
+
+static int read_float(const char *word, float *number) {
+    char *end;
+    *number = strtof(word, &end);
+    return end != word && *end == '\0';
+}
+
+/* A number that no int32_t holds is none. */
+static int read_whole(const char *word, int32_t *number) {
+    char *end;
+    errno = 0;
+    const long long wide = strtoll(word, &end, 10);
+    if (end == word || *end != '\0' || errno != 0 || wide < INT32_MIN || INT32_MAX < wide) return 0;
+    *number = (int32_t)wide;
+    return 1;
+}
+
+/* Field with the set of the day's epoch. Where the day has none, the set does not matter: Field's own
+ * refusal of the day comes before it looks at the set. */
+static uint32_t field_at(float lat, float lon, float height, int32_t year, int32_t day,
+                         struct shown *s) {
+    const size_t n = NJERUMOY_LIST_LENGTH;
+    const float phi = lat * DEGREE, lambda = lon * DEGREE;
+    size_t entry[2];
+    int32_t years[2];
+    float offset;
+
+    s->epoch_year = 2025;
+    njerumoy_epoch(year, day, &s->epoch_year, &offset);
+    const struct set *set = &SETS[s->epoch_year == 2025];
+    const uint32_t refusal = njerumoy_field(
+        height, sinf(phi), cosf(phi), sinf(lambda), cosf(lambda), year, day, s->epoch_year, set->g, n,
+        set->h, n, set->g_dot, n, set->h_dot, n, s->xyz, s->errors, entry, years);
+    if (refusal == NJERUMOY_HEIGHT) return refusal;
+    /* A pair comes round again after a full turn, so the degrees are asked for too. */
+    const uint32_t of_degrees = njerumoy_grid_variation(lat, lon, 0.0f, &s->given, &s->variation);
+    return of_degrees != 0 ? of_degrees : refusal;
+}
+
+static uint32_t strengths(float lat, float lon, struct shown *s) {
+    const float x = s->xyz[0], y = s->xyz[1], z = s->xyz[2];
+    uint32_t refusal = njerumoy_horizontal(x, y, z, &s->h);
+    if (refusal == 0) refusal = njerumoy_total(x, y, z, &s->f);
+    if (refusal == 0) refusal = njerumoy_zone(x, y, z, &s->zone);
+    if (refusal == 0) {
+        refusal = njerumoy_declination_uncertainty(x, y, z, s->epoch_year, &s->d_uncertainty);
+    }
+    s->d = atan2f(y, x) / DEGREE;
+    if (refusal == 0) refusal = njerumoy_grid_variation(lat, lon, s->d, &s->given, &s->variation);
+    return refusal;
+}
+
+static void print(const struct shown *s) {
+    const char *const zones[] = {"none", "blackout", "caution"};
+    printf("X  %9.1f nT  +- %.0f\n", (double)s->xyz[0], (double)s->errors[NJERUMOY_ERROR_X]);
+    printf("Y  %9.1f nT  +- %.0f\n", (double)s->xyz[1], (double)s->errors[NJERUMOY_ERROR_Y]);
+    printf("Z  %9.1f nT  +- %.0f\n", (double)s->xyz[2], (double)s->errors[NJERUMOY_ERROR_Z]);
+    printf("H  %9.1f nT  +- %.0f\n", (double)s->h, (double)s->errors[NJERUMOY_ERROR_H]);
+    printf("F  %9.1f nT  +- %.0f\n", (double)s->f, (double)s->errors[NJERUMOY_ERROR_F]);
+    printf("D  %9.2f deg +- %.2f\n", (double)s->d, (double)s->d_uncertainty);
+    printf("zone   %s\n", zones[s->zone]);
+    if (s->given) printf("grid   %.2f deg\n", (double)s->variation);
+    printf("epoch  %d\n", (int)s->epoch_year);
+}
+
+int main(int count, char **words) {
+    float lat, lon, height;
+    int32_t year, day;
+    struct shown s;
+
+    if (count != 6 || !read_float(words[1], &lat) || !read_float(words[2], &lon) ||
+        !read_float(words[3], &height) || !read_whole(words[4], &year) ||
+        !read_whole(words[5], &day)) {
+        fputs(USAGE, stderr);
+        return 2;
+    }
+    uint32_t refusal = field_at(lat, lon, height, year, day, &s);
+    if (refusal == 0) refusal = strengths(lat, lon, &s);
+    if (refusal != 0) {
+        printf("refusal %u: %s\n", (unsigned)refusal, WORDS[refusal]);
+        return 1;
+    }
+    print(&s);
+    return 0;
+}

@@ -1,0 +1,164 @@
+/* Njerumoy: the World Magnetic Model's numeric core, as a library to link.
+ *
+ * Every function returns a refusal number: 0 where it has an answer, else one of the numbers below.
+ * A place that is lent for a result is written only where the call has that result; else it keeps
+ * what it held. The lists of coefficients are only read. Nothing is kept between two calls, so calls
+ * may run at the same time in several threads. Of other libraries only memcpy and memset are called.
+ *
+ * Whatever numbers come, a call ends and answers as this file says: NaNs, infinities, and lists of
+ * any length. What the caller owes is what C cannot say:
+ *   - a pointer is not null and is aligned, also for a list of length 0;
+ *   - behind a list's pointer stand at least as many floats as its length says;
+ *   - the places for results overlap neither each other nor a list.
+ *
+ * float is IEEE 754 binary32. The processor rounds to nearest, and flushes no subnormal to zero
+ * (leave -ffast-math out when you link). Strengths are in nanotesla, rates in nanotesla a year,
+ * angles in degrees, heights in metres above the WGS 84 ellipsoid.
+ */
+#ifndef NJERUMOY_H
+#define NJERUMOY_H
+
+#include <stddef.h>
+#include <stdint.h>
+
+#ifdef __cplusplus
+extern "C" {
+#endif
+
+/* The length of each of the four lists g, h, g_dot, h_dot. The coefficient of degree n and order m,
+ * 1 <= n <= 12 and 0 <= m <= n, stands at n * (n + 1) / 2 + m - 1. */
+#define NJERUMOY_LIST_LENGTH 90
+
+/* The refusals. The first that applies is returned, in the order that each function gives. */
+enum {
+    NJERUMOY_ANSWER = 0,
+    /* the height is not finite, or outside -1000 to 850000 m */
+    NJERUMOY_HEIGHT = 1,
+    /* the latitude is no latitude: its pair is off the circle or its cosine below -2^-20; in
+     * degrees, it is not finite or outside -90 to 90 */
+    NJERUMOY_LATITUDE = 2,
+    /* the longitude is no longitude: its pair is off the circle; in degrees, it is not finite or
+     * outside -180 to 180 */
+    NJERUMOY_LONGITUDE = 3,
+    /* that year has no such day */
+    NJERUMOY_DAY_OF_YEAR = 4,
+    /* no model: the epoch year, of the day, of the set or as given, is neither 2020 nor 2025. The
+     * two models serve from day 1 of 2020 to day 365 of 2029. */
+    NJERUMOY_EPOCH_YEAR = 5,
+    /* one of the four lists is not 90 long */
+    NJERUMOY_LENGTH = 6,
+    /* a coefficient is not finite, or over its cap: 65536 nT in g and h, 4096 nT a year in the
+     * rates. `entry` is told the first one. */
+    NJERUMOY_COEFFICIENT = 7,
+    /* the set belongs to another epoch than the day. `years` is told both. */
+    NJERUMOY_OTHER_EPOCH = 8,
+    /* the pair of the colatitude is off the circle */
+    NJERUMOY_COLATITUDE = 9,
+    /* the radius ratio is not finite, or outside 0.875 to 1.015625 */
+    NJERUMOY_RATIO = 10,
+    /* the offset is not finite, or outside 0 to 5 years */
+    NJERUMOY_OFFSET = 11,
+    /* a number that cannot be used: a component that is not finite or over 2^60 in size, a
+     * declination that is not finite or outside -180 to 180, a root of a NaN or of a number below
+     * zero */
+    NJERUMOY_UNUSABLE = 12
+};
+
+/* A pair (sine, cosine) is off the circle where one of them is not finite, or the sum of their
+ * squares, each step rounded to float, lies outside 1 - 2^-20 to 1 + 2^-20. sinf and cosf of one
+ * angle are on it. */
+
+/* Field: the geomagnetic field at a place and a day.
+ *
+ * height        metres
+ * sin_phi ..    sine and cosine of the geodetic latitude, and of the longitude
+ * year, day_of_year   the day; day_of_year is 1 on the first of January
+ * epoch_year    the epoch year of the set, 2020 or 2025
+ * g .. h_dot    the set, each list with its length
+ * xyz           X (north), Y (east) and Z (down)
+ * errors        the error figures of the model, by NJERUMOY_ERROR_..
+ * entry         of refusal 7: the list (0 g, 1 h, 2 g_dot, 3 h_dot) and the index from 0
+ * years         of refusal 8: the epoch years of the day and of the set
+ *
+ * Refusals, in this order: 1, 2, 3, 4, 5, 6, 7, 8. */
+uint32_t njerumoy_field(float height, float sin_phi, float cos_phi, float sin_lambda,
+                        float cos_lambda, int32_t year, int32_t day_of_year, int32_t epoch_year,
+                        const float *g, size_t g_length, const float *h, size_t h_length,
+                        const float *g_dot, size_t g_dot_length, const float *h_dot,
+                        size_t h_dot_length, float xyz[3], float errors[8], size_t entry[2],
+                        int32_t years[2]);
+
+/* Where each figure stands in `errors`. The declination's uncertainty is the root of
+ * SIGMA_C squared + (SIGMA_V / H) squared, and at most 180: njerumoy_declination_uncertainty. */
+enum {
+    NJERUMOY_ERROR_SIGMA_C = 0,
+    NJERUMOY_ERROR_SIGMA_V = 1,
+    NJERUMOY_ERROR_INCLINATION = 2,
+    NJERUMOY_ERROR_F = 3,
+    NJERUMOY_ERROR_H = 4,
+    NJERUMOY_ERROR_X = 5,
+    NJERUMOY_ERROR_Y = 6,
+    NJERUMOY_ERROR_Z = 7
+};
+
+/* Sum: the sums over degree and order, at a geocentric place.
+ *
+ * cos_theta, sin_theta    of the geocentric colatitude
+ * sin_lambda, cos_lambda  of the longitude
+ * ratio         the model's reference radius, 6371200 m, over the distance from the Earth's centre
+ * offset        years since the set's epoch
+ * xyz           X', Y and Z': along the geocentric axes, X' and Z' with the sign turned round
+ *               (south and up)
+ * entry         as in njerumoy_field
+ *
+ * Refusals, in this order: 9, 3, 10, 11, 6, 7. */
+uint32_t njerumoy_sum(float cos_theta, float sin_theta, float sin_lambda, float cos_lambda,
+                      float ratio, float offset, const float *g, size_t g_length, const float *h,
+                      size_t h_length, const float *g_dot, size_t g_dot_length,
+                      const float *h_dot, size_t h_dot_length, float xyz[3], size_t entry[2]);
+
+/* Epoch: the epoch year of a day, and the years since then. Refusals, in this order: 4, 5. */
+uint32_t njerumoy_epoch(int32_t year, int32_t day_of_year, int32_t *epoch_year, float *offset);
+
+/* The strengths over a field's X, Y and Z. Refusal 12, by any of the three.
+ *
+ * horizontal    H, the root of X * X + Y * Y
+ * total         F, the root of H * H + Z * Z
+ * zone          a warning that the declination is not to be trusted, by H */
+uint32_t njerumoy_horizontal(float x, float y, float z, float *h);
+uint32_t njerumoy_total(float x, float y, float z, float *f);
+uint32_t njerumoy_zone(float x, float y, float z, uint32_t *zone);
+
+enum {
+    NJERUMOY_NO_ZONE = 0,
+    /* H below 2000 nT */
+    NJERUMOY_BLACKOUT_ZONE = 1,
+    /* H from 2000 nT on and below 6000 nT */
+    NJERUMOY_CAUTION_ZONE = 2
+};
+
+/* The uncertainty of the declination, by the error figures of an epoch year. Refusals, in this
+ * order: 5, 12. */
+uint32_t njerumoy_declination_uncertainty(float x, float y, float z, int32_t epoch_year,
+                                          float *uncertainty);
+
+/* Grid variation, for the charts of the polar regions: declination minus longitude from 55 degrees
+ * north on, declination plus longitude from 55 degrees south on, brought to -180 to 180. Elsewhere
+ * there is none.
+ *
+ * given         1 where there is one, 0 where there is none
+ * variation     written only where there is one
+ *
+ * Refusals, in this order: 2, 3, 12. */
+uint32_t njerumoy_grid_variation(float latitude_deg, float longitude_deg, float declination_deg,
+                                 uint32_t *given, float *variation);
+
+/* The correctly rounded square root. Refusal 12 for a NaN and for a number below zero; -0 and
+ * infinity are their own roots. */
+uint32_t njerumoy_square_root(float x, float *root);
+
+#ifdef __cplusplus
+}
+#endif
+
+#endif
