@@ -1,23 +1,25 @@
 -- One more order and one more degree of the general sum.
 use mathlib.Core.Path.{_≡_, refl, ap, _∙_}
+use mathlib.Core.Logic.{⊎-elim}
 use mathlib.Core.List.{List, [], _∷_}
 use Prim.Native.Nat.{ℕ, zero, suc, _+_, _-_, _<_, _≤_}
 use native.Mathlib.Nat.{not-suc-le-zero, le-of-suc-le-suc}
 use native.Mathlib.Numerals.{add-one}
 use native.Mathlib.Omega.{arith}
 use lib.ListN.{getD, length, replicate, getD-replicate}
-use lib.Ieee.{Float, nan, binary32, mul, ofInt, ofBits, round}
+use lib.Ieee.{Float, nan, binary32, add, mul, ofInt, ofBits, round}
 use Rattle.tables.specs.Tables.{schmidtAt, kAt, kTable, schmidtTable}
 use Rattle.tables.specs.Degree.{M-LEN, N-COEFF, place, N-LEGENDRE}
+use Rattle.synthesis.specs.declared.rows.Four.{Four}
 use Rattle.synthesis.specs.declared.rows.PDp.{PDp}
 use Rattle.synthesis.specs.declared.rows.Places.{Places}
 use Rattle.synthesis.specs.declared.Xyz.{Xyz}
 use Rattle.synthesis.specs.declared.angles.Angles.{Angles}
-use Rattle.synthesis.specs.Recurrence.{Input, angle, coefficient, dpsn, g-at, gc-hs, gs-hc, h-at, legendre, lit, power, psn, step, total, x-row, x-sum, x-term, y-row, y-sum, y-term, z-row, z-sum, z-term}
+use Rattle.synthesis.specs.Recurrence.{Input, coefficient, dpsn, g-at, gc-hs, gs-hc, h-at, legendre, lit, power, psn, total, x-row, x-sum, x-term, y-row, y-sum, y-term, z-row, z-sum, z-term}
 use Rattle.synthesis.specs.Sum.{Lent, at, inputs, nought}
-use Rattle.synthesis.proofs.RowsHold.{Rows, Sized, put-sized, rows-put, rows-rotate, rows-step}
-use Rattle.synthesis.specs.Code.{addDegree, addOrder, anglesOf, cells, cosAt, general, pdp, put, rotated, sinAt}
-use Rattle.synthesis.proofs.Filled.{first-get}
+use Rattle.synthesis.proofs.RowsHold.{put-sized, rows-put, rows-rotate, rows-step, same-or, term-other, term-same, term-sized}
+use Rattle.synthesis.specs.Code.{Given, Row, Rows, Sized, Summed, addDegree, anglesOf, atDate, cellXyz, cosAt, first, general, pdp, put, put4, put4Terms, putTerm, rotated, rowSums, sinAt, stepped, termAt, termOf, terms, totals}
+use Rattle.synthesis.proofs.Filled.{date-get, first-get}
 use Rattle.synthesis.proofs.PlaceSizes.{least, most}
 use Rattle.synthesis.specs.Arithmetic.{pair, rounded}
 use Rattle.tables.specs.Laws.{k-entry, schmidt-entry}
@@ -63,25 +65,125 @@ pub record Long (a : Lent) : Type 0 where
   pub g-dot : length (a .g-dot) ≡ N-COEFF
   pub h-dot : length (a .h-dot) ≡ N-COEFF
 
--- ---- the sums of degree n over the orders below j
-abbrev pub partial : Input → ℕ → ℕ → Xyz
-partial i n j = record { x = total rounded i (x-term rounded i n) j; y = total rounded i (y-term rounded i n) j; z = total rounded i (z-term rounded i n) j }
+-- what is read at each order, from what is lent
+pub given : (a : Lent) (ks ss gt ht os : List Float) (t : Angles)
+    → Long a → ks ≡ kTable → ss ≡ schmidtTable → gt ≡ atDate (a .g) (a .g-dot) (a .offset) → ht ≡ atDate (a .h) (a .h-dot) (a .offset)
+    → os ≡ first lit M-LEN → t ≡ anglesOf (a .sin-lambda) (a .cos-lambda)
+    → Given (inputs a) (a .cos-theta) (a .sin-theta) ks ss gt ht os (t .sin) (t .cos)
+unfolding inputs anglesOf
+given a ks ss gt ht os t L ek es eg eh eo et =
+    record {
+      cos-theta = refl;
+      sin-theta = refl;
+      K = λ n m hn hm. rw ek (k-entry (place n m) (omega (arith, most n hn)));
+      S = λ n m hn hm. rw es (schmidt-entry (place n m) (omega (arith, most n hn)));
+      g = λ n m z hn hm. date-get (a .g) (a .g-dot) (a .offset) gt (place n m - 1) eg (omega (arith, most n hn, least n z)) ∙ g-read a n m (place n m - 1) z hn hm refl (L .g) (L .g-dot);
+      h = λ n m z hn hm. date-get (a .h) (a .h-dot) (a .offset) ht (place n m - 1) eh (omega (arith, most n hn, least n z)) ∙ h-read a n m (place n m - 1) z hn hm refl (L .h) (L .h-dot);
+      order = λ m h. rw eo (first-get lit M-LEN m h);
+      sin-is = λ m h. rw et (first-get (sinAt (a .sin-lambda) (a .cos-lambda)) M-LEN m h);
+      cos-is = λ m h. rw et (first-get (cosAt (a .sin-lambda) (a .cos-lambda)) M-LEN m h);
+    }
 
-more-terms : (i : Input) (n m : ℕ) (acc : Xyz) (r : PDp) (sn gt ht sin cos : Float)
-    → acc ≡ partial i n m → r ≡ pdp (legendre rounded i n m) → sn ≡ i .S n m → gt ≡ g-at rounded i n m → ht ≡ h-at rounded i n m
-    → sin ≡ angle rounded (i .sin-lambda) (i .cos-lambda) m .fst → cos ≡ angle rounded (i .sin-lambda) (i .cos-lambda) m .snd
-    → addOrder acc m sn r gt ht sin cos ≡ partial i n (m + 1)
-unfolding addOrder total gc-hs gs-hc psn dpsn lit rounded
-more-terms i n m acc r sn gt ht sin cos ea er es eg eh e1 e2 = rw (add-one, ea, er, es, eg, eh, e1, e2)
+-- ---- one order
+module _ (i : Input) (M n m j : ℕ) (p d : List (List Float)) (q : Places) (z : 0 < n) (hm : m ≤ n) (hM : m < M) (r : PDp) (c s k : Float) (ec : c ≡ i .cos-theta) (es : s ≡ i .sin-theta) (ek : k ≡ i .K n m)
+    (er : r ≡ stepped c s k n m p d q) (w : Rows i M n j p d q) where
+  pub row-is : r ≡ pdp (legendre rounded i n m)
+  row-is = er ∙ rw (ec, es, ek) (ap pdp (rows-step i M n m p d q z hm hM j w))
 
-more-degrees : (i : Input) (n : ℕ) (tot acc : Xyz) (ar : Float) → 0 < n → tot ≡ general i (n - 1) → ar ≡ power rounded i (n - 1) → acc ≡ partial i n (n + 1)
+pub row-put : (i : Input) (M n m : ℕ) (p d : List (List Float)) (q : Places) → 0 < n → m ≤ n → m < M → m < M-LEN → (r : PDp) → r ≡ pdp (legendre rounded i n m) → Rows i M n m p d q
+    → Rows i M n (m + 1) (put p (q .cur) m (r .p)) (put d (q .cur) m (r .dp)) q
+row-put i M n m p d q z hm hM l r er w = rows-put i M n m p d q z hm hM w l (r .p) (r .dp) (ap (λ (t : PDp). pair (t .p) (t .dp)) er)
+
+-- order m is done
+row-next : (i : Input) (n m m' : ℕ) (p d : List (List Float)) (q : Places) (t : List (List Float)) (r : PDp) (v : Xyz)
+    → 0 < n → n < M-LEN → m ≤ n → m' ≡ m + 1 → r ≡ pdp (legendre rounded i n m) → v ≡ terms i n m → Row i n m p d q t
+    → Row i n m' (put p (q .cur) m (r .p)) (put d (q .cur) m (r .dp)) q (putTerm t m v)
+row-next i n m m' p d q t r v z hn hm em er ev w =
+    let m13 : m < M-LEN = omega arith in
+    record {
+      rows = rw em (row-put i M-LEN n m p d q z hm m13 m13 r er (w .rows));
+      t-sized = term-sized t m v m13 (w .t-sized);
+      terms-are = λ l h.
+          ⊎-elim
+          (λ (e : l ≡ m). rw (e, term-same t m v m13 (w .t-sized)) ev)
+          (λ e. rw (term-other t m v m13 (w .t-sized) l e) (w .terms-are l (omega arith)))
+          (same-or l m);
+    }
+
+module _ (i : Input) (c s : Float) (ks ss gt ht os sin cos : List Float) (G : Given i c s ks ss gt ht os sin cos) (n : ℕ) (z : 0 < n) (hn : n < M-LEN) where
+  -- k is the place of order m
+  step-is : (m j k : ℕ) (p d : List (List Float)) (q : Places) (r : PDp) → m ≤ n → k ≡ place n m → r ≡ stepped c s (getD ks k nan) n m p d q → Rows i M-LEN n j p d q → r ≡ pdp (legendre rounded i n m)
+  step-is m j k p d q r hm ek er w = row-is i M-LEN n m j p d q z hm (omega arith) r c s (getD ks k nan) (G .cos-theta) (G .sin-theta) (rw ek (G .K n m hn hm)) er w
+
+  term-is : (m k : ℕ) (r : PDp) → m ≤ n → k ≡ place n m → r ≡ pdp (legendre rounded i n m) → termAt m k r ss gt ht os sin cos ≡ terms i n m
+  unfolding termOf gc-hs gs-hc psn dpsn rounded
+  term-is m k r hm ek er =
+      let m13 : m < M-LEN = omega arith in
+      rw (ek, er, G .order m m13, G .S n m hn hm, G .g n m z hn hm, G .h n m z hn hm, G .sin-is m m13, G .cos-is m m13)
+
+  order-done : (m m' k : ℕ) (p d : List (List Float)) (q : Places) (t : List (List Float)) (r : PDp) → m ≤ n → m' ≡ m + 1 → k ≡ place n m → r ≡ pdp (legendre rounded i n m) → Row i n m p d q t
+      → Row i n m' (put p (q .cur) m (r .p)) (put d (q .cur) m (r .dp)) q (putTerm t m (termAt m k r ss gt ht os sin cos))
+  order-done m m' k p d q t r hm em ek er w = row-next i n m m' p d q t r (termAt m k r ss gt ht os sin cos) z hn hm em er (term-is m k r hm ek er) w
+
+  pub next-order : (m k : ℕ) (p d : List (List Float)) (q : Places) (acc v : Xyz) (r : PDp) → m ≤ n → k ≡ place n m → r ≡ stepped c s (getD ks k nan) n m p d q → v ≡ termAt m k r ss gt ht os sin cos → Summed i n m p d q acc
+      → Summed i n (m + 1) (put p (q .cur) m (r .p)) (put d (q .cur) m (r .dp)) q (record { x = add binary32 (acc .x) (v .x); y = add binary32 (acc .y) (v .y); z = add binary32 (acc .z) (v .z) })
+  unfolding total rounded
+  next-order m k p d q acc v r hm ek er ev w =
+      let m13 : m < M-LEN = omega arith in
+      let e : r ≡ pdp (legendre rounded i n m) = step-is m m k p d q r hm ek er (w .rows) in
+      record { rows = row-put i M-LEN n m p d q z hm m13 m13 r e (w .rows); sums-are = rw (add-one, w .sums-are, ev, term-is m k r hm ek e) }
+
+  -- all four read the rows as they are before the first store
+  pub next-four : (m k : ℕ) (p d : List (List Float)) (q : Places) (t : List (List Float)) (r : Four) → m + 5 ≤ n → k ≡ place n m
+      → r .r0 ≡ stepped c s (getD ks k nan) n m p d q
+      → r .r1 ≡ stepped c s (getD ks (k + 1) nan) n (m + 1) p d q
+      → r .r2 ≡ stepped c s (getD ks (k + 2) nan) n (m + 2) p d q
+      → r .r3 ≡ stepped c s (getD ks (k + 3) nan) n (m + 3) p d q
+      → Row i n m p d q t
+      → Row i n (m + 4) (put4 p (q .cur) m (r .r0 .p) (r .r1 .p) (r .r2 .p) (r .r3 .p)) (put4 d (q .cur) m (r .r0 .dp) (r .r1 .dp) (r .r2 .dp) (r .r3 .dp)) q
+      (put4Terms t m k r ss gt ht os sin cos)
+  next-four m k p d q t r h e s0 s1 s2 s3 w =
+      let k1 : k + 1 ≡ place n (m + 1) = omega arith in
+      let k2 : k + 2 ≡ place n (m + 2) = omega arith in
+      let k3 : k + 3 ≡ place n (m + 3) = omega arith in
+      order-done (m + 3) (m + 4) (k + 3) _ _ q _ (r .r3) (omega arith) (omega arith) k3 (step-is (m + 3) m (k + 3) p d q (r .r3) (omega arith) k3 s3 (w .rows))
+      (order-done (m + 2) (m + 3) (k + 2) _ _ q _ (r .r2) (omega arith) (omega arith) k2 (step-is (m + 2) m (k + 2) p d q (r .r2) (omega arith) k2 s2 (w .rows))
+      (order-done (m + 1) (m + 2) (k + 1) _ _ q _ (r .r1) (omega arith) (omega arith) k1 (step-is (m + 1) m (k + 1) p d q (r .r1) (omega arith) k1 s1 (w .rows))
+      (order-done m (m + 1) k p d q t (r .r0) (omega arith) refl e (step-is m m k p d q (r .r0) (omega arith) e s0 (w .rows)) w)))
+
+-- ---- one degree
+total-same : (i : Input) (f g : ℕ → Float) (k : ℕ) → ((m : ℕ) → m < k → f m ≡ g m) → total rounded i f k ≡ total rounded i g k
+unfolding total rounded
+total-same i f g zero h = refl
+total-same i f g (suc k) h = rw (total-same i f g k (λ m l. h m (omega arith)), h k (omega arith))
+
+-- the terms so far, added up
+pub added : (i : Input) (n m : ℕ) (p d : List (List Float)) (q : Places) (t : List (List Float)) (acc : Xyz) → Row i n m p d q t → acc ≡ totals i (cellXyz t) m → Summed i n m p d q acc
+added i n m p d q t acc w e =
+    record {
+      rows = w .rows;
+      sums-are =
+          e ∙
+          rw (
+            total-same i (λ l. cellXyz t l .x) (x-term rounded i n) m (λ l h. ap (λ (v : Xyz). v .x) (w .terms-are l h)),
+            total-same i (λ l. cellXyz t l .y) (y-term rounded i n) m (λ l h. ap (λ (v : Xyz). v .y) (w .terms-are l h)),
+            total-same i (λ l. cellXyz t l .z) (z-term rounded i n) m (λ l h. ap (λ (v : Xyz). v .z) (w .terms-are l h)),
+          );
+    }
+
+-- all orders are done
+pub row-end : (i : Input) (n m : ℕ) (p d : List (List Float)) (q : Places) (acc : Xyz) → m ≡ n + 1 → Summed i n m p d q acc → (acc ≡ rowSums i n) × Rows i M-LEN n (n + 1) p d q
+unfolding x-row y-row z-row
+row-end i n m p d q acc e w = (rw (e, add-one) at (w .sums-are), rw e at (w .rows))
+
+more-degrees : (i : Input) (n : ℕ) (tot acc : Xyz) (ar : Float) → 0 < n → tot ≡ general i (n - 1) → ar ≡ power rounded i (n - 1) → acc ≡ rowSums i n
     → addDegree tot n ar acc ≡ general i (n + 1 - 1)
-unfolding addDegree x-sum y-sum z-sum x-row y-row z-row total lit rounded
+unfolding addDegree x-sum y-sum z-sum total lit rounded
 more-degrees i zero tot acc ar z et er ea = absurd (not-suc-le-zero z)
 more-degrees i (suc j) tot acc ar z et er ea =
     let u : suc j + 1 - 1 ≡ suc j = omega arith in
     let v : suc j - 1 ≡ j = omega arith in
-    rw (et, er, ea, u, v, add-one)
+    rw (et, er, ea, u, v)
 
 pub more-power : (i : Input) (n : ℕ) (ar : Float) → 0 < n → ar ≡ power rounded i (n - 1) → mul binary32 ar (i .ratio) ≡ power rounded i (n + 1 - 1)
 unfolding power rounded
@@ -91,24 +193,11 @@ more-power i (suc j) ar z e =
     let v : suc j - 1 ≡ j = omega arith in
     rw (e, u, v)
 
--- ---- the loops' invariants
-pub record Inner (a : Lent) (n m : ℕ) (p d : List (List Float)) (q : Places) (acc : Xyz) : Type 0 where
-  pub rows : Rows (inputs a) M-LEN n m p d q
-  pub acc-is : acc ≡ partial (inputs a) n m
-
+-- the invariant of the loop over the degrees
 pub record Outer (a : Lent) (n : ℕ) (p d : List (List Float)) (q : Places) (ar : Float) (tot : Xyz) : Type 0 where
   pub rows : Rows (inputs a) M-LEN n 0 p d q
   pub ar-is : ar ≡ power rounded (inputs a) (n - 1)
   pub tot-is : tot ≡ general (inputs a) (n - 1)
-
-module _ (a : Lent) (M n m : ℕ) (p d : List (List Float)) (q : Places) (z : 0 < n) (hm : m ≤ n) (hM : m < M) (r : PDp) (k : Float) (ek : k ≡ kAt (place n m))
-    (er : r ≡ pdp (step rounded (a .cos-theta) (a .sin-theta) k n m (cells p d (q .prev1) (m - 1)) (cells p d (q .prev1) m) (cells p d (q .prev2) m))) (w : Rows (inputs a) M n m p d q) where
-  pub row-is : r ≡ pdp (legendre rounded (inputs a) n m)
-  unfolding inputs
-  row-is = er ∙ rw ek (ap pdp (rows-step (inputs a) M n m p d q z hm hM w))
-
-  pub row-put : m < M-LEN → Rows (inputs a) M n (m + 1) (put p (q .cur) m (r .p)) (put d (q .cur) m (r .dp)) q
-  row-put l = rows-put (inputs a) M n m p d q z hm hM w l (r .p) (r .dp) (ap (λ (t : PDp). pair (t .p) (t .dp)) row-is)
 
 -- before the first degree
 abbrev pub zeros : List (List Float)
@@ -117,7 +206,7 @@ zeros = replicate 3 (replicate M-LEN (ofBits binary32 0))
 abbrev pub places : Places
 places = record { prev2 = 0; prev1 = 1; cur = 2 }
 
-zeros-sized : Sized zeros
+pub zeros-sized : Sized zeros
 zeros-sized = record { rows = refl; cells = λ k h. ap length (getD-replicate 3 k (replicate M-LEN (ofBits binary32 0)) [] h) }
 
 pub rows-start : (i : Input) (M : ℕ) → Rows i M 1 0 (put zeros 1 0 (ofBits binary32 0x3f800000)) zeros places
@@ -149,40 +238,17 @@ start a =
     }
 
 -- before the first order
-pub begin : (a : Lent) (n : ℕ) (p d : List (List Float)) (q : Places) (ar : Float) (tot : Xyz) → Outer a n p d q ar tot → Inner a n 0 p d q (record { x = ofBits binary32 0; y = ofBits binary32 0; z = ofBits binary32 0 })
-unfolding total rounded
-begin a n p d q ar tot w = record { rows = w .rows; acc-is = rw lit-zero }
+pub begin : (i : Input) (n : ℕ) (p d : List (List Float)) (q : Places) → Rows i M-LEN n 0 p d q → Row i n 0 p d q zeros
+begin i n p d q w = record { rows = w; t-sized = zeros-sized; terms-are = λ m h. absurd (not-suc-le-zero h) }
 
-pub next-order : (a : Lent) (n m : ℕ) (p d : List (List Float)) (q : Places) (acc acc' : Xyz) (r : PDp) (ix : ℕ) (k sn gv hv : Float) (t : Angles)
-    → Long a → 0 < n → n < M-LEN → m ≤ n → t ≡ anglesOf (a .sin-lambda) (a .cos-lambda) → Inner a n m p d q acc
-    → ix ≡ place n m - 1
-    → k ≡ kAt (place n m)
-    → sn ≡ schmidtAt (place n m)
-    → gv ≡ coefficient rounded (getD (a .g) ix nan) (getD (a .g-dot) ix nan) (a .offset)
-    → hv ≡ coefficient rounded (getD (a .h) ix nan) (getD (a .h-dot) ix nan) (a .offset)
-    → r ≡ pdp (step rounded (a .cos-theta) (a .sin-theta) k n m (cells p d (q .prev1) (m - 1)) (cells p d (q .prev1) m) (cells p d (q .prev2) m))
-    → acc' ≡ addOrder acc m sn r gv hv (getD (t .sin) m nan) (getD (t .cos) m nan)
-    → Inner a n (m + 1) (put p (q .cur) m (r .p)) (put d (q .cur) m (r .dp)) q acc'
-unfolding inputs anglesOf
-next-order a n m p d q acc acc' r ix k sn gv hv t L z hn hm et w ei ek es eg eh er ea =
-    let m13 : m < M-LEN = omega arith in
-    let sin-is : getD (t .sin) m nan ≡ sinAt (a .sin-lambda) (a .cos-lambda) m = rw et (first-get (sinAt (a .sin-lambda) (a .cos-lambda)) M-LEN m m13) in
-    let cos-is : getD (t .cos) m nan ≡ cosAt (a .sin-lambda) (a .cos-lambda) m = rw et (first-get (cosAt (a .sin-lambda) (a .cos-lambda)) M-LEN m m13) in
-    record {
-      rows = row-put a M-LEN n m p d q z hm m13 r k ek er (w .rows) m13;
-      acc-is =
-          ea ∙ more-terms (inputs a) n m acc r sn gv hv (getD (t .sin) m nan) (getD (t .cos) m nan) (w .acc-is) (row-is a M-LEN n m p d q z hm m13 r k ek er (w .rows)) es
-          (eg ∙ g-read a n m ix z hn hm ei (L .g) (L .g-dot)) (eh ∙ h-read a n m ix z hn hm ei (L .h) (L .h-dot)) sin-is cos-is;
-    }
-
-pub next-degree : (a : Lent) (n m : ℕ) (p d : List (List Float)) (q q' : Places) (acc tot tot' : Xyz) (ar : Float)
-    → 0 < n → m ≡ n + 1 → ar ≡ power rounded (inputs a) (n - 1) → tot ≡ general (inputs a) (n - 1) → Inner a n m p d q acc
+pub next-degree : (a : Lent) (n : ℕ) (p₀ d₀ p d : List (List Float)) (q q' : Places) (acc tot tot' : Xyz) (ar : Float)
+    → 0 < n → Outer a n p₀ d₀ q ar tot → acc ≡ rowSums (inputs a) n → Rows (inputs a) M-LEN n (n + 1) p d q
     → tot' ≡ addDegree tot n ar acc → q' ≡ rotated q
     → Outer a (n + 1) p d q' (mul binary32 ar (a .ratio)) tot'
 unfolding inputs
-next-degree a n m p d q q' acc tot tot' ar z em er et w ed eq =
+next-degree a n p₀ d₀ p d q q' acc tot tot' ar z o ea w ed eq =
     record {
-      rows = rw eq (rows-rotate (inputs a) M-LEN n m p d q z (λ k hM h. omega arith) (w .rows));
-      ar-is = more-power (inputs a) n ar z er;
-      tot-is = ed ∙ more-degrees (inputs a) n tot acc ar z et er (rw em at (w .acc-is));
+      rows = rw eq (rows-rotate (inputs a) M-LEN n (n + 1) p d q z (λ k hM h. h) w);
+      ar-is = more-power (inputs a) n ar z (o .ar-is);
+      tot-is = ed ∙ more-degrees (inputs a) n tot acc ar z (o .tot-is) (o .ar-is) ea;
     }

@@ -15,11 +15,11 @@ use Rattle.synthesis.specs.declared.rows.PDp.{PDp}
 use Rattle.synthesis.specs.declared.rows.Places.{Places}
 use Rattle.synthesis.specs.declared.angles.SinCos.{SinCos}
 use Rattle.synthesis.specs.declared.Xyz.{Xyz}
-use Rattle.synthesis.specs.Recurrence.{Input, coefficient, dpsn, g-at, h-at, legendre, lit, pole-angle, pole-gc, pole-gs, pole-x, pole-x-row, pole-x-term, pole-y, pole-z, pole-z-row, pole-z-term, power, psn, quotient, step, total}
+use Rattle.synthesis.specs.Recurrence.{Input, coefficient, dpsn, g-at, h-at, legendre, lit, pole-angle, pole-gc, pole-gs, pole-x, pole-x-row, pole-x-term, pole-y, pole-z, pole-z-row, pole-z-term, power, psn, quotient, total}
 use Rattle.synthesis.specs.Sum.{Lent, at, inputs}
 use Rattle.synthesis.proofs.GeneralSum.{Long, g-read, h-read, lit-one, lit-zero, more-power, places, row-is, row-put, rows-start, zeros}
-use Rattle.synthesis.proofs.RowsHold.{Rows, rows-rotate}
-use Rattle.synthesis.specs.Code.{addPoleDegree, addPoleOrder, cells, nearPole, nextQ, pdp, put, rotated, sinCos}
+use Rattle.synthesis.proofs.RowsHold.{rows-rotate}
+use Rattle.synthesis.specs.Code.{Rows, addPoleDegree, addPoleOrder, nearPole, nextQ, pdp, put, rotated, sinCos, stepped}
 use Rattle.synthesis.specs.Arithmetic.{rounded}
 
 -- the recurrence of the quotient
@@ -85,7 +85,7 @@ pub next-order : (a : Lent) (n m : ℕ) (p d : List (List Float)) (k : Places) (
     → Long a → 0 < n → n < M-LEN → m < 2 → Inner a n m p d k acc
     → ar ≡ power rounded (inputs a) (n - 1) → q ≡ quotient rounded (inputs a) n
     → kv ≡ kAt (place n m)
-    → r ≡ pdp (step rounded (a .cos-theta) (a .sin-theta) kv n m (cells p d (k .prev1) (m - 1)) (cells p d (k .prev1) m) (cells p d (k .prev2) m))
+    → r ≡ stepped (a .cos-theta) (a .sin-theta) kv n m p d k
     → ix ≡ place n m - 1
     → gt ≡ coefficient rounded (getD (a .g) ix nan) (getD (a .g-dot) ix nan) (a .offset)
     → ht ≡ coefficient rounded (getD (a .h) ix nan) (getD (a .h-dot) ix nan) (a .offset)
@@ -97,10 +97,11 @@ unfolding inputs
 next-order a n m p d k acc acc' r ix kv sn gt ht ar q u L z hn h2 w e1 e2 ek er ei eg eh es eu ea =
     let hm : m ≤ n = omega arith in
     let m13 : m < M-LEN = omega arith in
+    let er' : r ≡ pdp (legendre rounded (inputs a) n m) = row-is (inputs a) 2 n m m p d k z hm h2 r (a .cos-theta) (a .sin-theta) kv refl refl ek er (w .rows) in
     record {
-      rows = row-put a 2 n m p d k z hm h2 r kv ek er (w .rows) m13;
+      rows = row-put (inputs a) 2 n m p d k z hm h2 m13 r er' (w .rows);
       acc-is =
-          ea ∙ more-terms (inputs a) n m acc r sn gt ht ar q u z h2 (w .acc-is) (row-is a 2 n m p d k z hm h2 r kv ek er (w .rows)) es
+          ea ∙ more-terms (inputs a) n m acc r sn gt ht ar q u z h2 (w .acc-is) er' es
           (eg ∙ g-read a n m ix z hn hm ei (L .g) (L .g-dot)) (eh ∙ h-read a n m ix z hn hm ei (L .h) (L .h-dot)) eu e1 e2;
     }
 

@@ -12,13 +12,13 @@ use lib.ListN.{getD, set, length, length-set}
 use lib.Seq.{getD-set-same, getD-set-other}
 use lib.Ieee.{Float, nan}
 use Rattle.synthesis.specs.declared.rows.Places.{Places}
+use Rattle.synthesis.specs.declared.Xyz.{Xyz}
 use Rattle.tables.specs.Degree.{M-LEN}
 use Rattle.synthesis.specs.Recurrence.{Input, legendre, step}
 use Rattle.synthesis.specs.Arithmetic.{Pair, pair, rounded}
-use Rattle.synthesis.specs.Sum.{at}
-use Rattle.synthesis.specs.Code.{cells, cell, put, rotated}
+use Rattle.synthesis.specs.Code.{Holds, Rows, Sized, cell, cells, cellXyz, put, putTerm, rotated}
 
-same-or : (a b : ℕ) → (a ≡ b) ⊎ (a ≡ b → ⊥)
+pub same-or : (a b : ℕ) → (a ≡ b) ⊎ (a ≡ b → ⊥)
 same-or a b = go (eqb a b) refl
   where
     go : (t : Bool) → eqb a b ≡ t → (a ≡ b) ⊎ (a ≡ b → ⊥)
@@ -33,10 +33,6 @@ less-or a b = go (ltb a b) refl
     go false e = inr (ltb-false a b e)
 
 -- ---- a store into one row
-pub record Sized (p : List (List Float)) : Type 0 where
-  pub rows : length p ≡ 3
-  pub cells : (k : ℕ) → k < 3 → length (getD p k []) ≡ M-LEN
-
 module _ (p : List (List Float)) (k m : ℕ) (v : Float) (hk : k < 3) (hm : m < M-LEN) (z : Sized p) where
   here : getD (put p k m v) k [] ≡ set (getD p k []) m v
   here = getD-set-same p k (set (getD p k []) m v) [] (omega (arith, z .rows))
@@ -59,6 +55,50 @@ module _ (p : List (List Float)) (k m : ℕ) (v : Float) (hk : k < 3) (hm : m < 
 
   pub put-sized : Sized (put p k m v)
   put-sized = record { rows = length-set p k (set (getD p k []) m v) ∙ z .rows; cells = size-at }
+
+-- the terms of an order, stored: one in each row
+module _ (t : List (List Float)) (m : ℕ) (v : Xyz) (hm : m < M-LEN) (z : Sized t) where
+  abbrev with-x : List (List Float)
+  with-x = put t 0 m (v .x)
+
+  abbrev with-xy : List (List Float)
+  with-xy = put with-x 1 m (v .y)
+
+  x-sized : Sized with-x
+  x-sized = put-sized t 0 m (v .x) (omega arith) hm z
+
+  xy-sized : Sized with-xy
+  xy-sized = put-sized with-x 1 m (v .y) (omega arith) hm x-sized
+
+  pub term-sized : Sized (putTerm t m v)
+  unfolding putTerm
+  term-sized = put-sized with-xy 2 m (v .z) (omega arith) hm xy-sized
+
+  not-y : (l : ℕ) → cell with-xy 0 l ≡ cell with-x 0 l
+  not-y l = put-other with-x 1 m (v .y) (omega arith) hm x-sized 0 l (λ e. omega arith)
+
+  not-z : (k l : ℕ) → k < 2 → cell (put with-xy 2 m (v .z)) k l ≡ cell with-xy k l
+  not-z k l h = put-other with-xy 2 m (v .z) (omega arith) hm xy-sized k l (λ e. omega arith)
+
+  pub term-same : cellXyz (putTerm t m v) m ≡ v
+  unfolding putTerm
+  term-same =
+      rw (not-z 0 m (omega arith), not-y m, put-same t 0 m (v .x) (omega arith) hm z, not-z 1 m (omega arith), put-same with-x 1 m (v .y) (omega arith) hm x-sized, put-same with-xy 2 m (v .z) (omega arith) hm xy-sized)
+
+  pub term-other : (l : ℕ) → (l ≡ m → ⊥) → cellXyz (putTerm t m v) l ≡ cellXyz t l
+  unfolding putTerm
+  term-other l n =
+      rw (
+        not-z 0 l (omega arith),
+        not-y l,
+        put-row t 0 m (v .x) (omega arith) hm z l n,
+        not-z 1 l (omega arith),
+        put-row with-x 1 m (v .y) (omega arith) hm x-sized l n,
+        put-other t 0 m (v .x) (omega arith) hm z 1 l (λ e. omega arith),
+        put-row with-xy 2 m (v .z) (omega arith) hm xy-sized l n,
+        put-other with-x 1 m (v .y) (omega arith) hm x-sized 2 l (λ e. omega arith),
+        put-other t 0 m (v .x) (omega arith) hm z 2 l (λ e. omega arith),
+      )
 
 -- ---- the row step reads only what the rows hold
 step-same : (c s k : Float) (n m : ℕ) → 0 < n → m ≤ n → (q' q r Q' Q R : Pair Float) → (0 < m → q' ≡ Q') → (m < n → q ≡ Q) → (m < n - 1 → r ≡ R)
@@ -89,33 +129,11 @@ legendre-next i (suc (suc k)) m z l q' q r a b d =
     step-same (i .cos-theta) (i .sin-theta) (i .K (suc (suc k)) m) (suc (suc k)) m z l q' q r (legendre rounded i (suc k) (m - 1)) (legendre rounded i (suc k) m) (legendre rounded i k m) (λ h. rw u at (a h)) (λ h. rw u at (b h)) (λ h. rw v at (d h))
 
 -- ---- what the rows hold
--- row k holds degree n at the orders below j and below M
-abbrev pub Holds : Input → ℕ → List (List Float) → List (List Float) → ℕ → ℕ → ℕ → Type 0
-Holds i M p d k n j = (m : ℕ) → m < M → m < j → cells p d k m ≡ legendre rounded i n m
+module _ (i : Input) (M n m : ℕ) (p d : List (List Float)) (q : Places) (z : 0 < n) (hm : m ≤ n) (hM : m < M) where
+  pub rows-step : (j : ℕ) → Rows i M n j p d q → step rounded (i .cos-theta) (i .sin-theta) (i .K n m) n m (cells p d (q .prev1) (m - 1)) (cells p d (q .prev1) m) (cells p d (q .prev2) m) ≡ legendre rounded i n m
+  rows-step j w = legendre-next i n m z hm _ _ _ (λ h. w .prev1 (m - 1) (omega arith) (omega arith)) (λ h. w .prev1 m hM h) (λ h. w .prev2 m hM h)
 
--- three different rows
-pub record Apart (q : Places) : Type 0 where
-  pub prev2 : q .prev2 < 3
-  pub prev1 : q .prev1 < 3
-  pub cur : q .cur < 3
-  pub prev1-cur : q .prev1 ≡ q .cur → ⊥
-  pub prev2-cur : q .prev2 ≡ q .cur → ⊥
-  pub prev1-prev2 : q .prev1 ≡ q .prev2 → ⊥
-
--- in degree n, the orders below j done; orders from M on are never read
-pub record Rows (i : Input) (M n j : ℕ) (p d : List (List Float)) (q : Places) : Type 0 where
-  pub p-sized : Sized p
-  pub d-sized : Sized d
-  pub apart : Apart q
-  pub prev1 : Holds i M p d (q .prev1) (n - 1) n
-  pub prev2 : Holds i M p d (q .prev2) (n - 2) (n - 1)
-  pub cur : Holds i M p d (q .cur) n j
-
-module _ (i : Input) (M n m : ℕ) (p d : List (List Float)) (q : Places) (z : 0 < n) (hm : m ≤ n) (hM : m < M) (w : Rows i M n m p d q) where
-  pub rows-step : step rounded (i .cos-theta) (i .sin-theta) (i .K n m) n m (cells p d (q .prev1) (m - 1)) (cells p d (q .prev1) m) (cells p d (q .prev2) m) ≡ legendre rounded i n m
-  rows-step = legendre-next i n m z hm _ _ _ (λ h. w .prev1 (m - 1) (omega arith) (omega arith)) (λ h. w .prev1 m hM h) (λ h. w .prev2 m hM h)
-
-  module _ (small : m < M-LEN) (u v : Float) where
+  module _ (w : Rows i M n m p d q) (small : m < M-LEN) (u v : Float) where
     other : (k a b : ℕ) → (k ≡ q .cur → ⊥) → Holds i M p d k a b → Holds i M (put p (q .cur) m u) (put d (q .cur) m v) k a b
     other k a b n h j hM hj =
         rw (put-other p (q .cur) m u (w .apart .cur) small (w .p-sized) k j n, put-other d (q .cur) m v (w .apart .cur) small (w .d-sized) k j n) (h j hM hj)

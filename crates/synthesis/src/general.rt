@@ -1,35 +1,231 @@
 // The general path: all orders, Y' not yet divided by sin θ.
 use crate::M_LEN;
+use crate::N_COEFF;
 use crate::Xyz;
 use crate::angles::sin_cos_m_lambda;
 use crate::date::at_date;
+use crate::rows::Four;
 use crate::rows::PDp;
 use crate::rows::Places;
-use crate::rows::coeff_index;
 use crate::rows::gauss_norm_p_dp;
 use crate::rows::legendre_index;
+use crate::rows::lower_four;
+use crate::rows::put_four;
+use crate::rows::put_p_dp;
 use crate::rows::rotate_row_indices;
+use tables::N_LEGENDRE;
 ghost use mathlib.Core.Path.{_≡_};
-ghost use Prim.Native.Nat.{_+_, _<_};
+ghost use Prim.Native.Nat.{_+_, _<_, _≤_};
 ghost use lib.ListN.{length};
-ghost use Rattle.tables.specs.Degree.{N-MAX, M-LEN, N-COEFF};
+ghost use Rattle.tables.specs.Degree.{N-MAX, M-LEN, N-COEFF, N-LEGENDRE};
 ghost use Rattle.synthesis.specs.Sum.{inputs};
-ghost use Rattle.synthesis.specs.Code.{addOrder, addDegree, lent, general};
+ghost use Rattle.synthesis.specs.Recurrence.{Input, lit};
+ghost use Rattle.synthesis.specs.Code.{Given, Row, Rows, Summed, addDegree, cellXyz, first, general, lent, put4Terms, putTerm, rowSums, termAt, totals};
 
-// One order's part of the three sums of its degree.
-pub fn add_order(a: Xyz, m: usize, s: f32, r: PDp, g: f32, h: f32, sin: f32, cos: f32) -> Xyz
-    requires { ⌜ m < M-LEN ⌝ }
-    ensures { λ q. ⌜ q ≡ addOrder a m s r g h sin cos ⌝ }
+// The orders as f32. Read from a table, taken once a call: a conversion does not run by lanes.
+const ORDERS: [f32; M_LEN] = [
+    0.0,
+    1.0,
+    2.0,
+    3.0,
+    4.0,
+    5.0,
+    6.0,
+    7.0,
+    8.0,
+    9.0,
+    10.0,
+    11.0,
+    12.0,
+];
+
+pub fn orders() -> [f32; M_LEN]
+    ensures { λ r. ⌜ r ≡ first lit M-LEN ⌝ }
 {
+    ORDERS
+}
+
+// The terms of order m, at place i of the tables, of the three sums of its degree.
+pub fn term(
+    m: usize,
+    i: usize,
+    r: PDp,
+    ss: &[f32; N_LEGENDRE],
+    gt: &[f32; N_COEFF],
+    ht: &[f32; N_COEFF],
+    os: &[f32; M_LEN],
+    sin: &[f32; M_LEN],
+    cos: &[f32; M_LEN],
+) -> Xyz
+    requires { ⌜ (m < M-LEN) × (0 < i) × (i < N-LEGENDRE) ⌝ }
+    ensures { λ v. ⌜ v ≡ termAt m i r (now (ss .entry)) (now (gt .entry)) (now (ht .entry)) (now (os .entry)) (now (sin .entry)) (now (cos .entry)) ⌝ }
+{
+    let s = ss[i];
+    let g = gt[i - 1];
+    let h = ht[i - 1];
     let psn = s * r.p;
     let dpsn = -s * r.dp;
-    let g_c_h_s = g * cos + h * sin;
-    let g_s_h_c = g * sin - h * cos;
+    let g_c_h_s = g * cos[m] + h * sin[m];
+    let g_s_h_c = g * sin[m] - h * cos[m];
     Xyz {
-        x: a.x + g_c_h_s * dpsn,
-        y: a.y + m as f32 * g_s_h_c * psn,
-        z: a.z + g_c_h_s * psn,
+        x: g_c_h_s * dpsn,
+        y: os[m] * g_s_h_c * psn,
+        z: g_c_h_s * psn,
     }
+}
+
+// The terms of order m, stored: x, y and z in a row each.
+pub fn put_term(m: usize, v: Xyz, t: &mut [[f32; M_LEN]; 3])
+    requires { ⌜ m < M-LEN ⌝ }
+    ensures { λ _. ⌜ now (t .exit) ≡ putTerm (now (t .entry)) m v ⌝ }
+{
+    let x = v.x;
+    let y = v.y;
+    let z = v.z;
+    t[0][m] = x;
+    t[1][m] = y;
+    t[2][m] = z;
+}
+
+// The terms of the orders m to m + 3. They go through the rows t, since only stores run by lanes:
+// the sums add them one after another.
+pub fn put_four_terms(
+    m: usize,
+    i: usize,
+    r: Four,
+    ss: &[f32; N_LEGENDRE],
+    gt: &[f32; N_COEFF],
+    ht: &[f32; N_COEFF],
+    os: &[f32; M_LEN],
+    sin: &[f32; M_LEN],
+    cos: &[f32; M_LEN],
+    t: &mut [[f32; M_LEN]; 3],
+)
+    requires { ⌜ (m + 3 < M-LEN) × (0 < i) × (i + 3 < N-LEGENDRE) ⌝ }
+    ensures { λ _. ⌜ now (t .exit) ≡ put4Terms (now (t .entry)) m i r (now (ss .entry)) (now (gt .entry)) (now (ht .entry)) (now (os .entry)) (now (sin .entry)) (now (cos .entry)) ⌝ }
+{
+    let v0 = term(m, i, r.r0, ss, gt, ht, os, sin, cos);
+    let v1 = term(m + 1, i + 1, r.r1, ss, gt, ht, os, sin, cos);
+    let v2 = term(m + 2, i + 2, r.r2, ss, gt, ht, os, sin, cos);
+    let v3 = term(m + 3, i + 3, r.r3, ss, gt, ht, os, sin, cos);
+    put_term(m, v0, t);
+    put_term(m + 1, v1, t);
+    put_term(m + 2, v2, t);
+    put_term(m + 3, v3, t);
+}
+
+// Orders m to m + 3 of degree n, all of them at most n - 2.
+pub fn four_orders(
+    n: usize,
+    m: usize,
+    c: f32,
+    s: f32,
+    ks: &[f32; N_LEGENDRE],
+    ss: &[f32; N_LEGENDRE],
+    gt: &[f32; N_COEFF],
+    ht: &[f32; N_COEFF],
+    os: &[f32; M_LEN],
+    sin: &[f32; M_LEN],
+    cos: &[f32; M_LEN],
+    p: &mut [[f32; M_LEN]; 3],
+    dp: &mut [[f32; M_LEN]; 3],
+    q: Places,
+    t: &mut [[f32; M_LEN]; 3],
+)
+    requires { ⌜ (n < M-LEN) × (m + 5 ≤ n) × (q .prev1 < 3) × (q .prev2 < 3) × (q .cur < 3) ⌝ }
+    ensures { λ _. ⌜ ((i : Input) → Given i c s (now (ks .entry)) (now (ss .entry)) (now (gt .entry)) (now (ht .entry)) (now (os .entry)) (now (sin .entry)) (now (cos .entry))
+        → Row i n m (now (p .entry)) (now (dp .entry)) q (now (t .entry)) → Row i n (m + 4) (now (p .exit)) (now (dp .exit)) q (now (t .exit))) ⌝ }
+{
+    let i = legendre_index(n, m);
+    let cur = q.cur;
+    let r = lower_four(m, i, c, s, ks, p, dp, q);
+    put_four(m, r, p, dp, cur);
+    put_four_terms(m, i, r, ss, gt, ht, os, sin, cos, t);
+}
+
+// The terms of the orders below `count`, added up in that order.
+pub fn add_terms(count: usize, t: &[[f32; M_LEN]; 3]) -> Xyz
+    requires { ⌜ count ≤ M-LEN ⌝ }
+    ensures { λ r. ⌜ ((i : Input) → r ≡ totals i (cellXyz (now (t .entry))) count) ⌝ }
+{
+    let mut x = 0.0f32;
+    let mut y = 0.0f32;
+    let mut z = 0.0f32;
+    for m in 0..count {
+        x = x + t[0][m];
+        y = y + t[1][m];
+        z = z + t[2][m];
+    }
+    Xyz { x, y, z }
+}
+
+// Order m of degree n: its P, and its part of the sums of its degree.
+pub fn one_order(
+    n: usize,
+    m: usize,
+    c: f32,
+    s: f32,
+    ks: &[f32; N_LEGENDRE],
+    ss: &[f32; N_LEGENDRE],
+    gt: &[f32; N_COEFF],
+    ht: &[f32; N_COEFF],
+    os: &[f32; M_LEN],
+    sin: &[f32; M_LEN],
+    cos: &[f32; M_LEN],
+    p: &mut [[f32; M_LEN]; 3],
+    dp: &mut [[f32; M_LEN]; 3],
+    q: Places,
+    acc: Xyz,
+) -> Xyz
+    requires { ⌜ (0 < n) × (n < M-LEN) × (m ≤ n) × (q .prev1 < 3) × (q .prev2 < 3) × (q .cur < 3) ⌝ }
+    ensures { λ r. ⌜ ((i : Input) → Given i c s (now (ks .entry)) (now (ss .entry)) (now (gt .entry)) (now (ht .entry)) (now (os .entry)) (now (sin .entry)) (now (cos .entry))
+        → Summed i n m (now (p .entry)) (now (dp .entry)) q acc → Summed i n (m + 1) (now (p .exit)) (now (dp .exit)) q r) ⌝ }
+{
+    let i = legendre_index(n, m);
+    let cur = q.cur;
+    let r = gauss_norm_p_dp(n, m, ks[i], c, s, p, dp, q);
+    put_p_dp(m, r, p, dp, cur);
+    let v = term(m, i, r, ss, gt, ht, os, sin, cos);
+    Xyz {
+        x: acc.x + v.x,
+        y: acc.y + v.y,
+        z: acc.z + v.z,
+    }
+}
+
+// The sums of degree n, its row filled from those of the two degrees before: four orders at a time
+// while all four are at most n - 2, the rest one by one.
+pub fn degree(
+    n: usize,
+    c: f32,
+    s: f32,
+    ks: &[f32; N_LEGENDRE],
+    ss: &[f32; N_LEGENDRE],
+    gt: &[f32; N_COEFF],
+    ht: &[f32; N_COEFF],
+    os: &[f32; M_LEN],
+    sin: &[f32; M_LEN],
+    cos: &[f32; M_LEN],
+    p: &mut [[f32; M_LEN]; 3],
+    dp: &mut [[f32; M_LEN]; 3],
+    q: Places,
+) -> Xyz
+    requires { ⌜ (0 < n) × (n < M-LEN) × (q .prev1 < 3) × (q .prev2 < 3) × (q .cur < 3) ⌝ }
+    ensures { λ r. ⌜ ((i : Input) → Given i c s (now (ks .entry)) (now (ss .entry)) (now (gt .entry)) (now (ht .entry)) (now (os .entry)) (now (sin .entry)) (now (cos .entry))
+        → Rows i M-LEN n 0 (now (p .entry)) (now (dp .entry)) q → (r ≡ rowSums i n) × Rows i M-LEN n (n + 1) (now (p .exit)) (now (dp .exit)) q) ⌝ }
+{
+    let mut t = [[0.0f32; M_LEN]; 3];
+    let mut m = 0usize;
+    while m + 5 <= n {
+        four_orders(n, m, c, s, ks, ss, gt, ht, os, sin, cos, p, dp, q, &mut t);
+        m += 4;
+    }
+    let mut acc = add_terms(m, &t);
+    while m <= n {
+        acc = one_order(n, m, c, s, ks, ss, gt, ht, os, sin, cos, p, dp, q, acc);
+        m += 1;
+    }
+    acc
 }
 
 // One degree's part of the sums.
@@ -64,6 +260,9 @@ pub fn synthesize_xyz_prime(
     let ss = tables::schmidt_table();
     let gt = at_date(g, g_dot, time_delta);
     let ht = at_date(h, h_dot, time_delta);
+    let os = orders();
+    let sin = a.sin;
+    let cos = a.cos;
     let mut p = [[0.0f32; M_LEN]; 3];
     let mut dp = [[0.0f32; M_LEN]; 3];
     p[1][0] = 1.0;
@@ -72,31 +271,30 @@ pub fn synthesize_xyz_prime(
         prev1: 1,
         cur: 2,
     };
-    let mut a_over_r_n2 = ratio * ratio * ratio;
+    let mut power = ratio * ratio * ratio;
     let mut tot = Xyz {
         x: 0.0,
         y: 0.0,
         z: 0.0,
     };
     for n in 1..M_LEN {
-        let mut acc = Xyz {
-            x: 0.0,
-            y: 0.0,
-            z: 0.0,
-        };
-        let cur = q.cur;
-        for m in 0..n + 1 {
-            let i = legendre_index(n, m);
-            let ix = coeff_index(n, m);
-            let r = gauss_norm_p_dp(n, m, ks[i], cos_theta, sin_theta, &p, &dp, q);
-            let u = r.p;
-            let v = r.dp;
-            p[cur][m] = u;
-            dp[cur][m] = v;
-            acc = add_order(acc, m, ss[i], r, gt[ix], ht[ix], a.sin[m], a.cos[m]);
-        }
-        tot = add_degree(tot, n, a_over_r_n2, acc);
-        a_over_r_n2 = a_over_r_n2 * ratio;
+        let acc = degree(
+            n,
+            cos_theta,
+            sin_theta,
+            &ks,
+            &ss,
+            &gt,
+            &ht,
+            &os,
+            &sin,
+            &cos,
+            &mut p,
+            &mut dp,
+            q,
+        );
+        tot = add_degree(tot, n, power, acc);
+        power = power * ratio;
         q = rotate_row_indices(q);
     }
     tot

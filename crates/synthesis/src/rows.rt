@@ -1,16 +1,25 @@
 // P and its derivative, row by row: three rows of thirteen, whose roles rotate after each degree.
 use crate::M_LEN;
+use tables::N_LEGENDRE;
 ghost use mathlib.Core.Path.{_≡_};
-ghost use Prim.Native.Nat.{_+_, _*_, _-_, _/_, _<_, _≤_};
+ghost use Prim.Native.Nat.{ℕ, _+_, _*_, _-_, _/_, _<_, _≤_};
 ghost use Rattle.tables.specs.Degree.{M-LEN, N-COEFF, N-LEGENDRE, place};
-ghost use Rattle.synthesis.specs.Arithmetic.{rounded};
-ghost use Rattle.synthesis.specs.Recurrence.{step};
-ghost use Rattle.synthesis.specs.Code.{pdp, cells, rotated};
+ghost use lib.ListN.{getD};
+ghost use lib.Ieee.{nan};
+ghost use Rattle.synthesis.specs.Code.{put, put4, rotated, stepped};
 
 // P and its derivative with respect to the colatitude.
 pub struct PDp {
     pub p: f32,
     pub dp: f32,
+}
+
+// The same of four orders, side by side.
+pub struct Four {
+    pub r0: PDp,
+    pub r1: PDp,
+    pub r2: PDp,
+    pub r3: PDp,
 }
 
 // Which row holds degree n - 2, n - 1 and n.
@@ -44,6 +53,58 @@ pub fn rotate_row_indices(q: Places) -> Places
     }
 }
 
+// Orders m ≤ n - 2 of degree n: the last branch of `gauss_norm_p_dp`. A function of its own, so that
+// four orders run as lanes with no branch between them.
+pub fn lower_p_dp(
+    m: usize,
+    k: f32,
+    cos_theta: f32,
+    sin_theta: f32,
+    p: &[[f32; M_LEN]; 3],
+    dp: &[[f32; M_LEN]; 3],
+    q: Places,
+) -> PDp
+    requires { ⌜ (m < M-LEN) × (q .prev1 < 3) × (q .prev2 < 3) ⌝ }
+    ensures { λ r. ⌜ ((n : ℕ) → m + 2 ≤ n → r ≡ stepped «cos_theta» «sin_theta» k n m (now (p .entry)) (now (dp .entry)) q) ⌝ }
+{
+    let i1 = q.prev1;
+    let i2 = q.prev2;
+    let a = p[i1][m];
+    let b = dp[i1][m];
+    let a2 = p[i2][m];
+    let b2 = dp[i2][m];
+    PDp {
+        p: cos_theta * a - k * a2,
+        dp: cos_theta * b - sin_theta * a - k * b2,
+    }
+}
+
+// Orders m to m + 3, their k from place i of the table on. All are read before any is stored, so
+// that they run as lanes.
+pub fn lower_four(
+    m: usize,
+    i: usize,
+    cos_theta: f32,
+    sin_theta: f32,
+    ks: &[f32; N_LEGENDRE],
+    p: &[[f32; M_LEN]; 3],
+    dp: &[[f32; M_LEN]; 3],
+    q: Places,
+) -> Four
+    requires { ⌜ (m + 3 < M-LEN) × (i + 3 < N-LEGENDRE) × (q .prev1 < 3) × (q .prev2 < 3) ⌝ }
+    ensures { λ r. ⌜ ((n : ℕ) → m + 5 ≤ n
+        → (r .r0 ≡ stepped «cos_theta» «sin_theta» (getD (now (ks .entry)) i nan) n m (now (p .entry)) (now (dp .entry)) q)
+        × (r .r1 ≡ stepped «cos_theta» «sin_theta» (getD (now (ks .entry)) (i + 1) nan) n (m + 1) (now (p .entry)) (now (dp .entry)) q)
+        × (r .r2 ≡ stepped «cos_theta» «sin_theta» (getD (now (ks .entry)) (i + 2) nan) n (m + 2) (now (p .entry)) (now (dp .entry)) q)
+        × (r .r3 ≡ stepped «cos_theta» «sin_theta» (getD (now (ks .entry)) (i + 3) nan) n (m + 3) (now (p .entry)) (now (dp .entry)) q)) ⌝ }
+{
+    let r0 = lower_p_dp(m, ks[i], cos_theta, sin_theta, p, dp, q);
+    let r1 = lower_p_dp(m + 1, ks[i + 1], cos_theta, sin_theta, p, dp, q);
+    let r2 = lower_p_dp(m + 2, ks[i + 2], cos_theta, sin_theta, p, dp, q);
+    let r3 = lower_p_dp(m + 3, ks[i + 3], cos_theta, sin_theta, p, dp, q);
+    Four { r0, r1, r2, r3 }
+}
+
 // The rows are lent: passed by value they would be copied at each order.
 pub fn gauss_norm_p_dp(
     n: usize,
@@ -56,13 +117,9 @@ pub fn gauss_norm_p_dp(
     q: Places,
 ) -> PDp
     requires { ⌜ (0 < n) × (n < M-LEN) × (m ≤ n) × (q .prev1 < 3) × (q .prev2 < 3) ⌝ }
-    ensures { λ r. ⌜ r ≡ pdp (step rounded «cos_theta» «sin_theta» k n m
-        (cells (now (p .entry)) (now (dp .entry)) (q .prev1) (m - 1))
-        (cells (now (p .entry)) (now (dp .entry)) (q .prev1) m)
-        (cells (now (p .entry)) (now (dp .entry)) (q .prev2) m)) ⌝ }
+    ensures { λ r. ⌜ r ≡ stepped «cos_theta» «sin_theta» k n m (now (p .entry)) (now (dp .entry)) q ⌝ }
 {
     let i1 = q.prev1;
-    let i2 = q.prev2;
     if n == m {
         let a = p[i1][m - 1];
         let b = dp[i1][m - 1];
@@ -83,13 +140,35 @@ pub fn gauss_norm_p_dp(
             dp: cos_theta * b - sin_theta * a,
         }
     } else {
-        let a = p[i1][m];
-        let b = dp[i1][m];
-        let a2 = p[i2][m];
-        let b2 = dp[i2][m];
-        PDp {
-            p: cos_theta * a - k * a2,
-            dp: cos_theta * b - sin_theta * a - k * b2,
-        }
+        lower_p_dp(m, k, cos_theta, sin_theta, p, dp, q)
     }
+}
+
+// P and its derivative of order m, into the row of the degree.
+pub fn put_p_dp(m: usize, r: PDp, p: &mut [[f32; M_LEN]; 3], dp: &mut [[f32; M_LEN]; 3], cur: usize)
+    requires { ⌜ (m < M-LEN) × (cur < 3) ⌝ }
+    ensures { λ _. ⌜ (now (p .exit) ≡ put (now (p .entry)) cur m (r .p)) × (now (dp .exit) ≡ put (now (dp .entry)) cur m (r .dp)) ⌝ }
+{
+    let u = r.p;
+    let v = r.dp;
+    p[cur][m] = u;
+    dp[cur][m] = v;
+}
+
+// The same of the orders m to m + 3.
+pub fn put_four(
+    m: usize,
+    r: Four,
+    p: &mut [[f32; M_LEN]; 3],
+    dp: &mut [[f32; M_LEN]; 3],
+    cur: usize,
+)
+    requires { ⌜ (m + 3 < M-LEN) × (cur < 3) ⌝ }
+    ensures { λ _. ⌜ (now (p .exit) ≡ put4 (now (p .entry)) cur m (r .r0 .p) (r .r1 .p) (r .r2 .p) (r .r3 .p))
+        × (now (dp .exit) ≡ put4 (now (dp .entry)) cur m (r .r0 .dp) (r .r1 .dp) (r .r2 .dp) (r .r3 .dp)) ⌝ }
+{
+    put_p_dp(m, r.r0, p, dp, cur);
+    put_p_dp(m + 1, r.r1, p, dp, cur);
+    put_p_dp(m + 2, r.r2, p, dp, cur);
+    put_p_dp(m + 3, r.r3, p, dp, cur);
 }

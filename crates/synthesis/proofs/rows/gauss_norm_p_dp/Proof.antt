@@ -1,5 +1,5 @@
 -- `synthesis::rows::gauss_norm_p_dp` meets its contract: each branch is the definition's, by the tests that led there. Assumes nothing.
-use borrow.Author.Tests.{eq-eqb, ne-eqb, eqb-false, lt-ltb, le-ltb}
+use borrow.Author.Tests.{eq-eqb, ne-eqb, eqb-false, lt-ltb}
 use native.Mathlib.Omega.{arith}
 use mathlib.Core.Logic.{⊎-elim}
 use Rattle.synthesis.specs.Arithmetic.{rounded}
@@ -65,53 +65,8 @@ index-1-b-2 c = search needs
 index-2-b-2 : tie.Need-index-2-b-2
 index-2-b-2 c = search needs
 
-mul-a-5 : tie.Need-mul-a-5
-mul-a-5 c = search needs
-
-mul-a-6 : tie.Need-mul-a-6
-mul-a-6 c = search needs
-
-index-1-a-3 : tie.Need-index-1-a-3
-index-1-a-3 c = search needs
-
-index-2-a-3 : tie.Need-index-2-a-3
-index-2-a-3 c = search needs
-
-mul-b-5 : tie.Need-mul-b-5
-mul-b-5 c = search needs
-
-mul-b-6 : tie.Need-mul-b-6
-mul-b-6 c = search needs
-
-index-1-b-3 : tie.Need-index-1-b-3
-index-1-b-3 c = search needs
-
-index-2-b-3 : tie.Need-index-2-b-3
-index-2-b-3 c = search needs
-
-mul-a2 : tie.Need-mul-a2
-mul-a2 c = search needs
-
-mul-a2-2 : tie.Need-mul-a2-2
-mul-a2-2 c = search needs
-
-index-1-a2 : tie.Need-index-1-a2
-index-1-a2 c = search needs
-
-index-2-a2 : tie.Need-index-2-a2
-index-2-a2 c = search needs
-
-mul-b2 : tie.Need-mul-b2
-mul-b2 c = search needs
-
-mul-b2-2 : tie.Need-mul-b2-2
-mul-b2-2 c = search needs
-
-index-1-b2 : tie.Need-index-1-b2
-index-1-b2 c = search needs
-
-index-2-b2 : tie.Need-index-2-b2
-index-2-b2 c = search needs
+lower-p-dp-requires : tie.Need-lower-p-dp-requires
+lower-p-dp-requires c κs = search needs
 
 returns : tie.Need-returns
 unfolding step rounded
@@ -129,11 +84,9 @@ returns-3 c =
     simp (ne-eqb _ _ (b .before .before .if1 .left), ne-eqb n 1 (λ e. omega (arith, sub-if4 (b .before))), lt-ltb _ _ (b .if4 .taken))
 
 returns-4 : tie.Need-returns-4
-unfolding step rounded
 returns-4 c =
-    let b = c .before .before .before .before in
-    let n = b .before .before .before .args .n in
-    simp (ne-eqb _ _ (b .before .before .if1 .left), ne-eqb n 1 (λ e. omega (arith, sub-if4 (b .before))), le-ltb _ _ (b .if4 .left))
+    let b = c .before in
+    c .lower-p-dp .ensures (b .before .before .before .args .n) (omega (arith, sub-if4 (b .before), b .if4 .left))
 
 pub gauss-norm-p-dp-spec : {M : Type 1} → statement M
 gauss-norm-p-dp-spec =
@@ -158,22 +111,7 @@ gauss-norm-p-dp-spec =
     mul-b-4
     index-1-b-2
     index-2-b-2
-    mul-a-5
-    mul-a-6
-    index-1-a-3
-    index-2-a-3
-    mul-b-5
-    mul-b-6
-    index-1-b-3
-    index-2-b-3
-    mul-a2
-    mul-a2-2
-    index-1-a2
-    index-2-a2
-    mul-b2
-    mul-b2-2
-    index-1-b2
-    index-2-b2
+    lower-p-dp-requires
     returns
     returns-2
     returns-3

@@ -1,0 +1,89 @@
+-- `synthesis::general::add_terms` meets its contract. The orders below m are added. Assumes nothing.
+use mathlib.Core.Path.{_≡_}
+use Prim.Native.Nat.{_-_, _≤_}
+use native.Mathlib.Omega.{arith}
+use native.Mathlib.Numerals.{add-one}
+use borrow.Author.Needs.{needs}
+use Rattle.synthesis.specs.Arithmetic.{rounded}
+use Rattle.synthesis.specs.Recurrence.{Input, total}
+use Rattle.synthesis.specs.Code.{cell}
+use Rattle.synthesis.proofs.GeneralSum.{lit-zero}
+use Rattle.synthesis.proofs.general.add_terms.Statement.{statement}
+use Rattle.synthesis.proofs.general.add_terms.Tie as tie
+
+abbrev Inv-loop : tie.InvT-loop
+Inv-loop count t x₀ y₀ z₀ m₀ x y z m =
+    (m ≤ count) × ((i : Input) → (x ≡ total rounded i (cell t 0) m) × (y ≡ total rounded i (cell t 1) m) × (z ≡ total rounded i (cell t 2) m))
+
+abbrev μ-loop : tie.MeasureT-loop
+μ-loop count t x₀ y₀ z₀ m₀ x y z m = count - m
+
+loop-holds : tie.Need-loop-holds Inv-loop μ-loop
+unfolding total rounded
+loop-holds c = (search needs, λ i. (lit-zero, lit-zero, lit-zero))
+
+mul-x : tie.Need-mul-x Inv-loop μ-loop
+mul-x c = search needs
+
+index-1-x : tie.Need-index-1-x Inv-loop μ-loop
+index-1-x c = search needs
+
+index-2-x : tie.Need-index-2-x Inv-loop μ-loop
+index-2-x c = search needs
+
+mul-y : tie.Need-mul-y Inv-loop μ-loop
+mul-y c = search needs
+
+index-1-y : tie.Need-index-1-y Inv-loop μ-loop
+index-1-y c = search needs
+
+index-2-y : tie.Need-index-2-y Inv-loop μ-loop
+index-2-y c = search needs
+
+mul-z : tie.Need-mul-z Inv-loop μ-loop
+mul-z c = search needs
+
+index-1-z : tie.Need-index-1-z Inv-loop μ-loop
+index-1-z c = search needs
+
+index-2-z : tie.Need-index-2-z Inv-loop μ-loop
+index-2-z c = search needs
+
+add-m : tie.Need-add-m Inv-loop μ-loop
+add-m c = search needs
+
+loop-less : tie.Need-loop-less Inv-loop μ-loop
+loop-less c = search needs
+
+loop-again : tie.Need-loop-again Inv-loop μ-loop
+unfolding total rounded
+loop-again c =
+    let l = c .before .before .before .before in
+    (search needs, λ i. (rw (add-one, l .loop .inv .1 i .0), rw (add-one, l .loop .inv .1 i .1), rw (add-one, l .loop .inv .1 i .2)))
+
+returns : tie.Need-returns Inv-loop μ-loop
+returns c =
+    let l = c .before .loop in
+    λ i. let e : l .m ≡ c .before .before .args .count = omega arith in
+    rw (l .inv .1 i .0, l .inv .1 i .1, l .inv .1 i .2, e)
+
+pub add-terms-spec : {M : Type 1} → statement M
+add-terms-spec =
+    tie.close
+    (tie.spec
+    Inv-loop
+    μ-loop
+    loop-holds
+    mul-x
+    index-1-x
+    index-2-x
+    mul-y
+    index-1-y
+    index-2-y
+    mul-z
+    index-1-z
+    index-2-z
+    add-m
+    loop-less
+    loop-again
+    returns)

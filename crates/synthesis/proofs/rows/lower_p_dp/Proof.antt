@@ -1,0 +1,85 @@
+-- `synthesis::rows::lower_p_dp` meets its contract: the tests of the definition all fail at such an order. Assumes nothing.
+use borrow.Author.Tests.{ne-eqb, le-ltb}
+use Prim.Native.Nat.{_-_}
+use native.Mathlib.Omega.{arith}
+use Rattle.synthesis.specs.Arithmetic.{rounded}
+use Rattle.synthesis.specs.Recurrence.{step}
+use borrow.Author.Needs.{needs}
+use Rattle.synthesis.proofs.rows.lower_p_dp.Statement.{statement}
+use Rattle.synthesis.proofs.rows.lower_p_dp.Tie as tie
+
+mul-a : tie.Need-mul-a
+mul-a c = search needs
+
+mul-a-2 : tie.Need-mul-a-2
+mul-a-2 c = search needs
+
+index-1-a : tie.Need-index-1-a
+index-1-a c = search needs
+
+index-2-a : tie.Need-index-2-a
+index-2-a c = search needs
+
+mul-b : tie.Need-mul-b
+mul-b c = search needs
+
+mul-b-2 : tie.Need-mul-b-2
+mul-b-2 c = search needs
+
+index-1-b : tie.Need-index-1-b
+index-1-b c = search needs
+
+index-2-b : tie.Need-index-2-b
+index-2-b c = search needs
+
+mul-a2 : tie.Need-mul-a2
+mul-a2 c = search needs
+
+mul-a2-2 : tie.Need-mul-a2-2
+mul-a2-2 c = search needs
+
+index-1-a2 : tie.Need-index-1-a2
+index-1-a2 c = search needs
+
+index-2-a2 : tie.Need-index-2-a2
+index-2-a2 c = search needs
+
+mul-b2 : tie.Need-mul-b2
+mul-b2 c = search needs
+
+mul-b2-2 : tie.Need-mul-b2-2
+mul-b2-2 c = search needs
+
+index-1-b2 : tie.Need-index-1-b2
+index-1-b2 c = search needs
+
+index-2-b2 : tie.Need-index-2-b2
+index-2-b2 c = search needs
+
+returns : tie.Need-returns
+unfolding step rounded
+returns c = λ n h.
+    let m = c .before .before .before .before .args .m in
+    simp (ne-eqb n m (λ e. omega arith), ne-eqb n 1 (λ e. omega arith), le-ltb (n - 2) m (omega arith))
+
+pub lower-p-dp-spec : {M : Type 1} → statement M
+lower-p-dp-spec =
+    tie.close
+    (tie.spec
+    mul-a
+    mul-a-2
+    index-1-a
+    index-2-a
+    mul-b
+    mul-b-2
+    index-1-b
+    index-2-b
+    mul-a2
+    mul-a2-2
+    index-1-a2
+    index-2-a2
+    mul-b2
+    mul-b2-2
+    index-1-b2
+    index-2-b2
+    returns)
