@@ -57,17 +57,17 @@ zone blackout = pos 1 ∷ []
 zone caution = pos 2 ∷ []
 
 -- ---- what is asked
-abbrev nought : Float
+abbrev pub nought : Float
 nought = ofBits binary32 0
 
-abbrev one : Float
+abbrev pub one : Float
 one = ofBits binary32 0x3f800000
 
-abbrev zeros : List Float
+abbrev pub zeros : List Float
 zeros = replicate N-COEFF nought
 
 -- g_1^0 = -30000
-abbrev dipole : List Float
+abbrev pub dipole : List Float
 dipole = set zeros 0 (ofBits binary32 0xc6ea6000)
 
 -- h_1^1 = 4500

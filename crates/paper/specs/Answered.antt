@@ -1,0 +1,35 @@
+-- Field answers, and not always the same: at two places, with an axial dipole as the set. So no program that refuses everything, and none that
+-- always shows the same strengths, meets Field's contract.
+use mathlib.Core.Path.{_≡_, refl}
+use Prim.Native.Nat.{ℕ}
+use lib.IntN.{pos}
+use lib.Ieee.{Float, binary32, ofBits, ofInt, round, sum, add, sub, mul, neg, div, lt, le, eq}
+use Rattle.exact.specs.Tests.{circle, capped}
+use Rattle.float32.specs.Root.{sqrtOf}
+use Rattle.refusals.specs.Paper.{Paper, answered}
+use Rattle.models.specs.Calendar.{leapYear}
+use Rattle.models.specs.Epochs.{dayExists, epochYear, knownEpoch, offsetOf, epochSays}
+use Rattle.models.specs.Errors.{errorModel}
+use Rattle.tables.specs.Tables.{schmidtAt, schmidtBits, kAt, kBits}
+use Rattle.synthesis.specs.declared.Xyz.{Xyz}
+use Rattle.synthesis.specs.Arithmetic.{rounded}
+use Rattle.synthesis.specs.Recurrence.{lit, step, angle, pole-angle, legendre, total, g-at, h-at, gc-hs, gs-hc, psn, dpsn, power, x-row, y-row, z-row, x-sum, y-sum, z-sum, quotient, pole-gc, pole-gs, pole-x-row, pole-z-row, pole-x, pole-y, pole-z}
+use Rattle.synthesis.specs.Sum.{inputs, small-sine, listsSay, entriesSay}
+use Rattle.geocentric.specs.Geo.{flatness, curve, far, near, cylinder, axis, radiusOf, cosOf, sinOf, ratioOf}
+use Rattle.field.specs.declared.strengths.GeomagneticField.{GeomagneticField}
+use Rattle.field.specs.Turn.{turn-x, turn-z, sin-turn, cos-turn}
+use Rattle.field.specs.Field.{Asked, asked, recordOf, handed, field-x, field-y, field-z, placeSays, shownSays, datedSays, fieldSays}
+use Rattle.paper.specs.Examples.{nought, one, zeros, dipole}
+
+-- the place with this latitude's pair, at sea level, on longitude 0; the set is of 2025
+abbrev at : (sin-phi cos-phi : Float) → Asked
+at sin-phi cos-phi = asked nought sin-phi cos-phi nought one (pos 2025) dipole zeros zeros zeros
+
+-- the record with these bits as X and Z, and Y 0
+abbrev shown : (x z : ℕ) → Paper GeomagneticField
+shown x z = answered (recordOf (record { x = ofBits binary32 x; y = nought; z = ofBits binary32 z }) (pos 2025))
+
+-- on the equator the field points north, by 29,902.2 nT; at the pole it points down, by 60,410.0 nT (X is -0)
+pub field-answers : (fieldSays (at nought one) (pos 2025) (pos 1) ≡ shown 0x46e99c72 0) × (fieldSays (at one nought) (pos 2025) (pos 1) ≡ shown 0x80000000 0x476bfa0b)
+unfolding fieldSays placeSays datedSays shownSays handed field-x field-y field-z turn-x turn-z sin-turn cos-turn flatness curve far near cylinder axis radiusOf cosOf sinOf ratioOf sqrtOf epochSays dayExists epochYear knownEpoch offsetOf leapYear errorModel listsSay entriesSay circle capped small-sine inputs schmidtAt schmidtBits kAt kBits rounded lit angle pole-angle step legendre total g-at h-at gc-hs gs-hc psn dpsn power x-row y-row z-row x-sum y-sum z-sum quotient pole-gc pole-gs pole-x-row pole-z-row pole-x pole-y pole-z ofBits ofInt round sum add sub mul neg div lt le eq
+field-answers = (refl, refl)
