@@ -92,6 +92,17 @@ pub fn sqrt(x: f32) -> f32
     }
 }
 
+// The same, where the caller has a guess: to test one takes a fraction of the time of a search.
+pub fn sqrt_by_guess(x: f32, guess: f32) -> f32
+    ensures { λ r. ⌜ r ≡ sqrtOf x ⌝ }
+{
+    if root::is_root(x, guess) {
+        guess
+    } else {
+        sqrt(x)
+    }
+}
+
 // What `square_root` answers.
 pub enum RootAnswer {
     Root(f32),

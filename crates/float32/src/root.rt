@@ -3,7 +3,8 @@ ghost use Prim.Native.Nat.{_<_, _≤_, _^_, _-_};
 ghost use mathlib.Core.Path.{_≡_};
 ghost use lib.Dec.{T};
 ghost use Rattle.float32.specs.Root.{sqrtOf, rootable};
-ghost use Rattle.float32.specs.Parts.{Nearest, Lifted, Packed};
+ghost use mathlib.Core.Bool.{true};
+ghost use Rattle.float32.specs.Parts.{Nearest, Lifted, Packed, spread};
 
 // No NaN and not below zero. No comparison with a NaN holds, so the one that accepts is asked.
 pub fn has_root(x: f32) -> bool
@@ -49,22 +50,33 @@ fn halved_root(x: u64) -> u64
     low
 }
 
-// The same: the guess, if it is the one, and else by halving.
+// g is the whole number nearest to the root of x.
+fn is_nearest(x: u64, g: u64) -> bool
+    requires { ⌜ x < 2 ^ 48 ⌝ }
+    ensures { λ r. ⌜ (r ≡ true → Nearest x g) ⌝ }
+{
+    if 0x80_0000 <= g {
+        if g < 0x100_0000 {
+            let s = g * g;
+            if s < x + g {
+                if x <= s + g {
+                    return true;
+                }
+            }
+        }
+    }
+    false
+}
+
+// The whole number nearest to the root of x: the guess, if it is the one, and else by halving.
 fn near_root(x: u64) -> u64
     requires { ⌜ 2 ^ 46 ≤ x ⌝ }
     requires { ⌜ x ≤ 2 ^ 48 - 2 ^ 24 ⌝ }
     ensures { λ r. ⌜ Nearest x r ⌝ }
 {
     let g = guess(x);
-    if 0x80_0000 <= g {
-        if g < 0x100_0000 {
-            let s = g * g;
-            if s < x + g {
-                if x <= s + g {
-                    return g;
-                }
-            }
-        }
+    if is_nearest(x, g) {
+        return g;
     }
     halved_root(x)
 }
@@ -90,6 +102,20 @@ fn lifted(t: u32) -> Scaled
     Scaled { m: m, f: f }
 }
 
+// m with places after it: the whole number whose root is the root's 24 digits.
+fn spread(m: u32, f: u32) -> u64
+    requires { ⌜ 2 ^ 23 ≤ m ⌝ }
+    requires { ⌜ m < 2 ^ 24 ⌝ }
+    ensures { λ r. ⌜ (r ≡ spread m f) × (2 ^ 46 ≤ r) × (r ≤ 2 ^ 48 - 2 ^ 24) ⌝ }
+{
+    let w = m as u64;
+    if f % 2 == 0 {
+        w * 0x100_0000
+    } else {
+        w * 0x80_0000
+    }
+}
+
 // The bit pattern of the root of m * 2 ^ (f - 214).
 fn root_bits(m: u32, f: u32) -> u32
     requires { ⌜ 2 ^ 23 ≤ m ⌝ }
@@ -97,14 +123,21 @@ fn root_bits(m: u32, f: u32) -> u32
     requires { ⌜ f ≤ 318 ⌝ }
     ensures { λ r. ⌜ Packed m f r ⌝ }
 {
-    let w = m as u64;
-    let n = if f % 2 == 0 {
-        w * 0x100_0000
-    } else {
-        w * 0x80_0000
-    };
-    let q = near_root(n);
+    let q = near_root(spread(m, f));
     ((f + 1) / 2 + 30) * 0x80_0000 + (q as u32)
+}
+
+// b is that bit pattern. A pattern's exponent counts the leading digit, which q has too.
+fn is_root_bits(m: u32, f: u32, b: u32) -> bool
+    requires { ⌜ 2 ^ 23 ≤ m ⌝ }
+    requires { ⌜ m < 2 ^ 24 ⌝ }
+    requires { ⌜ f ≤ 318 ⌝ }
+    ensures { λ r. ⌜ (r ≡ true → Packed m f b) ⌝ }
+{
+    if b / 0x80_0000 != (f + 1) / 2 + 31 {
+        return false;
+    }
+    is_nearest(spread(m, f), (b % 0x80_0000 + 0x80_0000) as u64)
 }
 
 // The root of x, the nearest f32. +0, -0 and +inf, whose patterns the first two tests find, are
@@ -127,4 +160,23 @@ pub fn rounded_root(x: f32) -> f32
         return f32::from_bits(root_bits(s.m, s.f));
     }
     f32::from_bits(root_bits(t + 0x80_0000, e + 64))
+}
+
+// y is the root of x. Only asked of a y that is likely to be it: where x is zero, subnormal or
+// infinite the answer is no.
+pub fn is_root(x: f32, y: f32) -> bool
+    ensures { λ r. ⌜ (r ≡ true → y ≡ sqrtOf x) ⌝ }
+{
+    let b = crate::to_bits(x);
+    if b < 0x80_0000 {
+        return false;
+    }
+    if 0x7f80_0000 <= b {
+        return false;
+    }
+    is_root_bits(
+        b % 0x80_0000 + 0x80_0000,
+        b / 0x80_0000 + 64,
+        crate::to_bits(y),
+    )
 }

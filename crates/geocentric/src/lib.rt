@@ -1,7 +1,11 @@
 // The geocentric step: from a height and the sine and cosine of a geodetic latitude to the radius and
 // the sine and cosine of the colatitude. Each operation is rounded once, in the order of the source.
+use guess::near_one;
+use guess::near_radius;
 ghost use mathlib.Core.Path.{_≡_};
 ghost use Rattle.geocentric.specs.Geo.{geocentricOf, ratioTo};
+
+mod guess;
 
 // The ellipsoid WGS 84: the longer half axis, 6378137 m, and the first eccentricity squared. The
 // latter is F * (2 - F) as the source rounds it, with F the f32 nearest to 1 / 298.257223563.
@@ -22,10 +26,12 @@ pub struct Geocentric {
 pub fn geodetic_to_geocentric(height: f32, sin_phi: f32, cos_phi: f32) -> Geocentric
     ensures { λ r. ⌜ r ≡ geocentricOf height «sin_phi» «cos_phi» ⌝ }
 {
-    let r_c = WGS84_A / float32::sqrt(1.0 - WGS84_E2 * sin_phi * sin_phi);
+    let w = 1.0 - WGS84_E2 * sin_phi * sin_phi;
+    let r_c = WGS84_A / float32::sqrt_by_guess(w, near_one(w));
     let p = (r_c + height) * cos_phi;
     let z = (r_c * (1.0 - WGS84_E2) + height) * sin_phi;
-    let r = float32::sqrt(p * p + z * z);
+    let r_squared = p * p + z * z;
+    let r = float32::sqrt_by_guess(r_squared, near_radius(r_squared));
     Geocentric {
         r: r,
         cos_theta: z / r,

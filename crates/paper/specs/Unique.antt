@@ -70,6 +70,9 @@ from-bits b = same (floatOf b)
 pub sqrt : (x r s : Float) → r ≡ sqrtOf x → s ≡ sqrtOf x → r ≡ s
 sqrt x = same (sqrtOf x)
 
+pub sqrt-by-guess : (x guess r s : Float) → r ≡ sqrtOf x → s ≡ sqrtOf x → r ≡ s
+sqrt-by-guess x guess = same (sqrtOf x)
+
 pub square-root : (x : Float) (r s : RootAnswer) → root.said r ≡ rootSays x → root.said s ≡ rootSays x → r ≡ s
 square-root = root-answer-one
 
