@@ -9,7 +9,7 @@ use lib.ListN.{length, getD, set, drop}
 use lib.Ieee.{Float, nan, binary32, add, sub, mul}
 use Rattle.tables.specs.Degree.{N-COEFF}
 use Rattle.synthesis.specs.Recurrence.{angle, coefficient}
-use Rattle.synthesis.specs.Code.{atDate, cosAt, first, sinAt}
+use Rattle.synthesis.specs.Code.{atDate, cosAt, first, sinAt, startAt}
 use Rattle.synthesis.specs.Arithmetic.{rounded}
 
 pub first-more : (f : ℕ → Float) (m : ℕ) (d : List Float) → m < length d → set (first f m ++ drop m d) m (f m) ≡ first f (suc m) ++ drop (suc m) d
@@ -56,3 +56,29 @@ module _ (sl cl : Float) (l₁ l₂ d₁ d₂ : List Float) where
       let v : suc k - 1 ≡ k = omega arith in
       let w : k < suc k = omega arith in
       rw (e₁, e₂, v, add-one, first-at (sinAt sl cl) (suc k) k (drop (suc k) d₁) w, first-at (cosAt sl cl) (suc k) k (drop (suc k) d₂) w) (first-more (cosAt sl cl) (suc k) d₂ h)
+
+-- the start values of the lanes
+module _ (c s : Float) (l₁ l₂ d₁ d₂ : List Float) where
+  abbrev p-at : ℕ → Float
+  p-at k = startAt c s k .fst
+
+  abbrev dp-at : ℕ → Float
+  dp-at k = startAt c s k .snd
+
+  pub next-p : (m : ℕ) → 0 < m → m < length d₁ → l₁ ≡ first p-at m ++ drop m d₁ → l₂ ≡ first dp-at m ++ drop m d₂
+      → set l₁ m (mul binary32 s (getD l₁ (m - 1) nan)) ≡ first p-at (m + 1) ++ drop (m + 1) d₁
+  unfolding startAt rounded
+  next-p zero z h e₁ e₂ = absurd (not-suc-le-zero z)
+  next-p (suc k) z h e₁ e₂ =
+      let v : suc k - 1 ≡ k = omega arith in
+      let w : k < suc k = omega arith in
+      rw (e₁, v, add-one, first-at p-at (suc k) k (drop (suc k) d₁) w) (first-more p-at (suc k) d₁ h)
+
+  pub next-dp : (m : ℕ) → 0 < m → m < length d₂ → l₁ ≡ first p-at m ++ drop m d₁ → l₂ ≡ first dp-at m ++ drop m d₂
+      → set l₂ m (add binary32 (mul binary32 s (getD l₂ (m - 1) nan)) (mul binary32 c (getD l₁ (m - 1) nan))) ≡ first dp-at (m + 1) ++ drop (m + 1) d₂
+  unfolding startAt rounded
+  next-dp zero z h e₁ e₂ = absurd (not-suc-le-zero z)
+  next-dp (suc k) z h e₁ e₂ =
+      let v : suc k - 1 ≡ k = omega arith in
+      let w : k < suc k = omega arith in
+      rw (e₁, e₂, v, add-one, first-at p-at (suc k) k (drop (suc k) d₁) w, first-at dp-at (suc k) k (drop (suc k) d₂) w) (first-more dp-at (suc k) d₂ h)

@@ -1,27 +1,31 @@
 -- One more order and one more degree of the general sum.
-use mathlib.Core.Path.{_≡_, refl, ap, _∙_}
-use mathlib.Core.Logic.{⊎-elim}
+use mathlib.Core.Path.{_≡_, refl, sym, ap, ap₂, _∙_}
+use mathlib.Core.Logic.{_⊎_, ⊎-elim}
 use mathlib.Core.List.{List, [], _∷_}
-use Prim.Native.Nat.{ℕ, zero, suc, _+_, _-_, _<_, _≤_}
+use Prim.Native.Nat.{ℕ, zero, suc, _+_, _*_, _-_, _/_, _<_, _≤_}
 use native.Mathlib.Nat.{not-suc-le-zero, le-of-suc-le-suc}
-use native.Mathlib.Numerals.{add-one}
 use native.Mathlib.Omega.{arith}
+use borrow.Author.Tests.{le-ltb, lt-ltb}
+use lib.Dec.{ltb}
+use mathlib.Core.Bool.{cond}
 use lib.ListN.{getD, length, replicate, getD-replicate}
-use lib.Ieee.{Float, nan, binary32, add, mul, ofInt, ofBits, round}
+use lib.Ieee.{Float, nan, binary32, mul, ofInt, ofBits, round}
 use Rattle.tables.specs.Tables.{schmidtAt, kAt, kTable, schmidtTable}
-use Rattle.tables.specs.Degree.{M-LEN, N-COEFF, place, N-LEGENDRE}
+use Rattle.tables.specs.Degree.{M-LEN, N-COEFF, N-LEGENDRE, N-MAX, place}
 use Rattle.synthesis.specs.declared.rows.Four.{Four}
 use Rattle.synthesis.specs.declared.rows.PDp.{PDp}
 use Rattle.synthesis.specs.declared.rows.Places.{Places}
 use Rattle.synthesis.specs.declared.Xyz.{Xyz}
 use Rattle.synthesis.specs.declared.angles.Angles.{Angles}
-use Rattle.synthesis.specs.Recurrence.{Input, coefficient, dpsn, g-at, gc-hs, gs-hc, h-at, legendre, lit, power, psn, total, x-row, x-sum, x-term, y-row, y-sum, y-term, z-row, z-sum, z-term}
+use Rattle.synthesis.specs.declared.lanes.Starts.{Starts}
+use Rattle.synthesis.specs.Recurrence.{Input, coefficient, g-at, h-at, legendre, lit, power, total, x-sum, y-sum, z-sum}
 use Rattle.synthesis.specs.Sum.{Lent, at, inputs, nought}
-use Rattle.synthesis.proofs.RowsHold.{put-sized, rows-put, rows-rotate, rows-step, same-or, term-other, term-same, term-sized}
-use Rattle.synthesis.specs.Code.{Given, Row, Rows, Sized, Summed, addDegree, anglesOf, atDate, cellXyz, cosAt, first, general, pdp, put, put4, put4Terms, putTerm, rotated, rowSums, sinAt, stepped, termAt, termOf, terms, totals}
+use Rattle.synthesis.proofs.LaneLaws.{lane-idle, lane-next}
+use Rattle.synthesis.proofs.RowsHold.{apart-rotate, less-or, put-other, put-row, put-same, put-sized, rows-put, rows-step, same-or, term-other, term-same, term-sized}
+use Rattle.synthesis.specs.Code.{Apart, Given, Lanes, Row, Rows, Sized, W-LEN, Weighed, addDegree, anglesOf, atDate, cellXyz, cells, cosAt, first, general, lane, laneStep, laneSums, laneTerms, loweredAt, pdp, put, put4, put4Terms, putTerm, rotated, rowSums, sinAt, start, startAt, startsOf, stepped, termAt, termOf, totals}
 use Rattle.synthesis.proofs.Filled.{date-get, first-get}
 use Rattle.synthesis.proofs.PlaceSizes.{least, most}
-use Rattle.synthesis.specs.Arithmetic.{pair, rounded}
+use Rattle.synthesis.specs.Arithmetic.{Pair, pair, rounded}
 use Rattle.tables.specs.Laws.{k-entry, schmidt-entry}
 
 -- ---- 0 and 1 as the code writes them
@@ -69,13 +73,11 @@ pub record Long (a : Lent) : Type 0 where
 pub given : (a : Lent) (ks ss gt ht os : List Float) (t : Angles)
     → Long a → ks ≡ kTable → ss ≡ schmidtTable → gt ≡ atDate (a .g) (a .g-dot) (a .offset) → ht ≡ atDate (a .h) (a .h-dot) (a .offset)
     → os ≡ first lit M-LEN → t ≡ anglesOf (a .sin-lambda) (a .cos-lambda)
-    → Given (inputs a) (a .cos-theta) (a .sin-theta) ks ss gt ht os (t .sin) (t .cos)
+    → Given (inputs a) ks ss gt ht os (t .sin) (t .cos)
 unfolding inputs anglesOf
 given a ks ss gt ht os t L ek es eg eh eo et =
     record {
-      cos-theta = refl;
-      sin-theta = refl;
-      K = λ n m hn hm. rw ek (k-entry (place n m) (omega (arith, most n hn)));
+      K = λ n m h. rw ek (k-entry (place n m) h);
       S = λ n m hn hm. rw es (schmidt-entry (place n m) (omega (arith, most n hn)));
       g = λ n m z hn hm. date-get (a .g) (a .g-dot) (a .offset) gt (place n m - 1) eg (omega (arith, most n hn, least n z)) ∙ g-read a n m (place n m - 1) z hn hm refl (L .g) (L .g-dot);
       h = λ n m z hn hm. date-get (a .h) (a .h-dot) (a .offset) ht (place n m - 1) eh (omega (arith, most n hn, least n z)) ∙ h-read a n m (place n m - 1) z hn hm refl (L .h) (L .h-dot);
@@ -94,62 +96,100 @@ pub row-put : (i : Input) (M n m : ℕ) (p d : List (List Float)) (q : Places) �
     → Rows i M n (m + 1) (put p (q .cur) m (r .p)) (put d (q .cur) m (r .dp)) q
 row-put i M n m p d q z hm hM l r er w = rows-put i M n m p d q z hm hM w l (r .p) (r .dp) (ap (λ (t : PDp). pair (t .p) (t .dp)) er)
 
--- order m is done
+-- ---- one lane
+module _ (i : Input) (n m : ℕ) (p d : List (List Float)) (q : Places) (hm : m < N-MAX) (w : Lanes i n m p d q) (u v : Float) where
+  abbrev small : m < M-LEN
+  small = omega arith
+
+  other : (k l : ℕ) → (k ≡ q .cur → ⊥) → cells (put p (q .cur) m u) (put d (q .cur) m v) k l ≡ cells p d k l
+  other k l n = rw (put-other p (q .cur) m u (w .apart .cur) small (w .p-sized) k l n, put-other d (q .cur) m v (w .apart .cur) small (w .d-sized) k l n)
+
+  beside : (l : ℕ) → (l ≡ m → ⊥) → cells (put p (q .cur) m u) (put d (q .cur) m v) (q .cur) l ≡ cells p d (q .cur) l
+  beside l n = rw (put-row p (q .cur) m u (w .apart .cur) small (w .p-sized) l n, put-row d (q .cur) m v (w .apart .cur) small (w .d-sized) l n)
+
+  -- lane m is done
+  lanes-put : pair u v ≡ lane i n m → Lanes i n (m + 1) (put p (q .cur) m u) (put d (q .cur) m v) q
+  lanes-put e =
+      record {
+        p-sized = put-sized p (q .cur) m u (w .apart .cur) small (w .p-sized);
+        d-sized = put-sized d (q .cur) m v (w .apart .cur) small (w .d-sized);
+        apart = w .apart;
+        prev1 = λ l h. other (q .prev1) l (w .apart .prev1-cur) ∙ w .prev1 l h;
+        prev2 = λ l h. other (q .prev2) l (w .apart .prev2-cur) ∙ w .prev2 l h;
+        done = λ l h hl.
+            ⊎-elim
+            (λ (a : l ≡ m). rw (a, put-same p (q .cur) m u (w .apart .cur) small (w .p-sized), put-same d (q .cur) m v (w .apart .cur) small (w .d-sized)) e)
+            (λ a. beside l a ∙ w .done l h (omega arith))
+            (same-or l m);
+        rest = λ l h hl. beside l (λ a. omega arith) ∙ w .rest l h (omega arith);
+      }
+
 row-next : (i : Input) (n m m' : ℕ) (p d : List (List Float)) (q : Places) (t : List (List Float)) (r : PDp) (v : Xyz)
-    → 0 < n → n < M-LEN → m ≤ n → m' ≡ m + 1 → r ≡ pdp (legendre rounded i n m) → v ≡ terms i n m → Row i n m p d q t
+    → m < N-MAX → m' ≡ m + 1 → r ≡ pdp (lane i n m) → (m ≤ n → v ≡ laneTerms i n m) → Row i n m p d q t
     → Row i n m' (put p (q .cur) m (r .p)) (put d (q .cur) m (r .dp)) q (putTerm t m v)
-row-next i n m m' p d q t r v z hn hm em er ev w =
+row-next i n m m' p d q t r v hm em er ev w =
     let m13 : m < M-LEN = omega arith in
     record {
-      rows = rw em (row-put i M-LEN n m p d q z hm m13 m13 r er (w .rows));
+      lanes = rw em (lanes-put i n m p d q hm (w .lanes) (r .p) (r .dp) (ap (λ (t : PDp). pair (t .p) (t .dp)) er));
       t-sized = term-sized t m v m13 (w .t-sized);
-      terms-are = λ l h.
+      terms-are = λ l h hl.
           ⊎-elim
-          (λ (e : l ≡ m). rw (e, term-same t m v m13 (w .t-sized)) ev)
-          (λ e. rw (term-other t m v m13 (w .t-sized) l e) (w .terms-are l (omega arith)))
+          (λ (e : l ≡ m). rw (e, term-same t m v m13 (w .t-sized)) (ev (omega arith)))
+          (λ e. term-other t m v m13 (w .t-sized) l e ∙ w .terms-are l (omega arith) hl)
           (same-or l m);
     }
 
-module _ (i : Input) (c s : Float) (ks ss gt ht os sin cos : List Float) (G : Given i c s ks ss gt ht os sin cos) (n : ℕ) (z : 0 < n) (hn : n < M-LEN) where
-  -- k is the place of order m
-  step-is : (m j k : ℕ) (p d : List (List Float)) (q : Places) (r : PDp) → m ≤ n → k ≡ place n m → r ≡ stepped c s (getD ks k nan) n m p d q → Rows i M-LEN n j p d q → r ≡ pdp (legendre rounded i n m)
-  step-is m j k p d q r hm ek er w = row-is i M-LEN n m j p d q z hm (omega arith) r c s (getD ks k nan) (G .cos-theta) (G .sin-theta) (rw ek (G .K n m hn hm)) er w
+-- the two ways to ask whether a lane is below the degree
+alike : (m n j : ℕ) → j + n ≡ m + N-MAX → ltb j N-MAX ≡ ltb m n
+alike m n j e = ⊎-elim (λ (h : m < n). lt-ltb j N-MAX (omega arith) ∙ sym (lt-ltb m n h)) (λ (h : n ≤ m). le-ltb j N-MAX (omega arith) ∙ sym (le-ltb m n h)) (less-or m n)
 
-  term-is : (m k : ℕ) (r : PDp) → m ≤ n → k ≡ place n m → r ≡ pdp (legendre rounded i n m) → termAt m k r ss gt ht os sin cos ≡ terms i n m
-  unfolding termOf gc-hs gs-hc psn dpsn rounded
-  term-is m k r hm ek er =
+module _ (i : Input) (ks cw sw kw ss gt ht os sin cos : List Float) (G : Given i ks ss gt ht os sin cos) (W : Weighed i cw sw kw) (n : ℕ) (z : 0 < n) (hn : n < M-LEN) where
+  -- k is the place of lane m in the table, j that in the lists of weights
+  lane-is : (m l k j : ℕ) (p d : List (List Float)) (q : Places) (r : PDp) → m < N-MAX → 4 * (m / 4) ≤ n → k ≡ place n m → k < N-LEGENDRE → j + n ≡ m + N-MAX → j < W-LEN
+      → r ≡ loweredAt m k j ks cw sw kw p d q → Lanes i n l p d q → r ≡ pdp (lane i n m)
+  unfolding laneStep
+  lane-is m l k j p d q r hm ht ek hk ej hj er w =
+      let K : getD ks k nan ≡ i .K n m = rw ek (G .K n m (rw ek at hk)) in
+      let e : loweredAt m k j ks cw sw kw p d q ≡ pdp (laneStep i n m (cells p d (q .prev1) m) (cells p d (q .prev2) m)) =
+      rw (K, W .cos-theta j hj, W .sin-theta j hj, W .k j hj, alike m n j ej) refl in
+      let g = ap₂ (λ (x y : Pair Float). pdp (laneStep i n m x y)) (w .prev1 m hm) (w .prev2 m hm) in
+      let f : lane i n m ≡ laneStep i n m (lane i (n - 1) m) (lane i (n - 2) m) = lane-next i n m z ∙ rw (le-ltb n (4 * (m / 4)) ht) refl in
+      er ∙ e ∙ g ∙ ap pdp (sym f)
+
+  term-at : (m k : ℕ) (r : PDp) → m ≤ n → k ≡ place n m → r ≡ pdp (cond (ltb m N-MAX) (lane i n m) (start i m)) → termAt m k r ss gt ht os sin cos ≡ laneTerms i n m
+  unfolding termOf
+  term-at m k r hm ek er =
       let m13 : m < M-LEN = omega arith in
       rw (ek, er, G .order m m13, G .S n m hn hm, G .g n m z hn hm, G .h n m z hn hm, G .sin-is m m13, G .cos-is m m13)
 
-  order-done : (m m' k : ℕ) (p d : List (List Float)) (q : Places) (t : List (List Float)) (r : PDp) → m ≤ n → m' ≡ m + 1 → k ≡ place n m → r ≡ pdp (legendre rounded i n m) → Row i n m p d q t
-      → Row i n m' (put p (q .cur) m (r .p)) (put d (q .cur) m (r .dp)) q (putTerm t m (termAt m k r ss gt ht os sin cos))
-  order-done m m' k p d q t r hm em ek er w = row-next i n m m' p d q t r (termAt m k r ss gt ht os sin cos) z hn hm em er (term-is m k r hm ek er) w
+  term-is : (m k : ℕ) (r : PDp) → m < N-MAX → k ≡ place n m → r ≡ pdp (lane i n m) → m ≤ n → termAt m k r ss gt ht os sin cos ≡ laneTerms i n m
+  term-is m k r h ek er hm = term-at m k r hm ek (rw (lt-ltb m N-MAX h) er)
 
-  pub next-order : (m k : ℕ) (p d : List (List Float)) (q : Places) (acc v : Xyz) (r : PDp) → m ≤ n → k ≡ place n m → r ≡ stepped c s (getD ks k nan) n m p d q → v ≡ termAt m k r ss gt ht os sin cos → Summed i n m p d q acc
-      → Summed i n (m + 1) (put p (q .cur) m (r .p)) (put d (q .cur) m (r .dp)) q (record { x = add binary32 (acc .x) (v .x); y = add binary32 (acc .y) (v .y); z = add binary32 (acc .z) (v .z) })
-  unfolding total rounded
-  next-order m k p d q acc v r hm ek er ev w =
-      let m13 : m < M-LEN = omega arith in
-      let e : r ≡ pdp (legendre rounded i n m) = step-is m m k p d q r hm ek er (w .rows) in
-      record { rows = row-put i M-LEN n m p d q z hm m13 m13 r e (w .rows); sums-are = rw (add-one, w .sums-are, ev, term-is m k r hm ek e) }
+  -- order N-MAX, which has no lane
+  pub last-term : (r : PDp) → n ≡ N-MAX → r ≡ pdp (start i N-MAX) → termAt N-MAX (N-LEGENDRE - 1) r ss gt ht os sin cos ≡ laneTerms i n N-MAX
+  last-term r e er = term-at N-MAX (N-LEGENDRE - 1) r (omega arith) (rw e refl) er
+
+  lane-done : (m m' k : ℕ) (p d : List (List Float)) (q : Places) (t : List (List Float)) (r : PDp) → m < N-MAX → m' ≡ m + 1 → k ≡ place n m → r ≡ pdp (lane i n m) → Row i n m p d q t
+      → Row i n m' (put p (q .cur) m (r .p)) (put d (q .cur) m (r .dp)) q (putTerm t m (termAt m k r ss gt ht os sin cos))
+  lane-done m m' k p d q t r h em ek er w = row-next i n m m' p d q t r (termAt m k r ss gt ht os sin cos) h em er (term-is m k r h ek er) w
 
   -- all four read the rows as they are before the first store
-  pub next-four : (m k : ℕ) (p d : List (List Float)) (q : Places) (t : List (List Float)) (r : Four) → m + 5 ≤ n → k ≡ place n m
-      → r .r0 ≡ stepped c s (getD ks k nan) n m p d q
-      → r .r1 ≡ stepped c s (getD ks (k + 1) nan) n (m + 1) p d q
-      → r .r2 ≡ stepped c s (getD ks (k + 2) nan) n (m + 2) p d q
-      → r .r3 ≡ stepped c s (getD ks (k + 3) nan) n (m + 3) p d q
+  pub next-four : (m k j : ℕ) (p d : List (List Float)) (q : Places) (t : List (List Float)) (r : Four) → 4 * (m / 4) ≡ m → m ≤ n → m + 3 < N-MAX → k ≡ place n m → k + 3 < N-LEGENDRE → j + n ≡ m + N-MAX
+      → r .r0 ≡ loweredAt m k j ks cw sw kw p d q
+      → r .r1 ≡ loweredAt (m + 1) (k + 1) (j + 1) ks cw sw kw p d q
+      → r .r2 ≡ loweredAt (m + 2) (k + 2) (j + 2) ks cw sw kw p d q
+      → r .r3 ≡ loweredAt (m + 3) (k + 3) (j + 3) ks cw sw kw p d q
       → Row i n m p d q t
       → Row i n (m + 4) (put4 p (q .cur) m (r .r0 .p) (r .r1 .p) (r .r2 .p) (r .r3 .p)) (put4 d (q .cur) m (r .r0 .dp) (r .r1 .dp) (r .r2 .dp) (r .r3 .dp)) q
       (put4Terms t m k r ss gt ht os sin cos)
-  next-four m k p d q t r h e s0 s1 s2 s3 w =
+  next-four m k j p d q t r f hm h e hk ej s0 s1 s2 s3 w =
       let k1 : k + 1 ≡ place n (m + 1) = omega arith in
       let k2 : k + 2 ≡ place n (m + 2) = omega arith in
       let k3 : k + 3 ≡ place n (m + 3) = omega arith in
-      order-done (m + 3) (m + 4) (k + 3) _ _ q _ (r .r3) (omega arith) (omega arith) k3 (step-is (m + 3) m (k + 3) p d q (r .r3) (omega arith) k3 s3 (w .rows))
-      (order-done (m + 2) (m + 3) (k + 2) _ _ q _ (r .r2) (omega arith) (omega arith) k2 (step-is (m + 2) m (k + 2) p d q (r .r2) (omega arith) k2 s2 (w .rows))
-      (order-done (m + 1) (m + 2) (k + 1) _ _ q _ (r .r1) (omega arith) (omega arith) k1 (step-is (m + 1) m (k + 1) p d q (r .r1) (omega arith) k1 s1 (w .rows))
-      (order-done m (m + 1) k p d q t (r .r0) (omega arith) refl e (step-is m m k p d q (r .r0) (omega arith) e s0 (w .rows)) w)))
+      lane-done (m + 3) (m + 4) (k + 3) _ _ q _ (r .r3) (omega arith) (omega arith) k3 (lane-is (m + 3) m (k + 3) (j + 3) p d q (r .r3) (omega arith) (omega arith) k3 (omega arith) (omega arith) (omega arith) s3 (w .lanes))
+      (lane-done (m + 2) (m + 3) (k + 2) _ _ q _ (r .r2) (omega arith) (omega arith) k2 (lane-is (m + 2) m (k + 2) (j + 2) p d q (r .r2) (omega arith) (omega arith) k2 (omega arith) (omega arith) (omega arith) s2 (w .lanes))
+      (lane-done (m + 1) (m + 2) (k + 1) _ _ q _ (r .r1) (omega arith) (omega arith) k1 (lane-is (m + 1) m (k + 1) (j + 1) p d q (r .r1) (omega arith) (omega arith) k1 (omega arith) (omega arith) (omega arith) s1 (w .lanes))
+      (lane-done m (m + 1) k p d q t (r .r0) (omega arith) refl e (lane-is m m k j p d q (r .r0) (omega arith) (omega arith) e (omega arith) ej (omega arith) s0 (w .lanes)) w)))
 
 -- ---- one degree
 total-same : (i : Input) (f g : ℕ → Float) (k : ℕ) → ((m : ℕ) → m < k → f m ≡ g m) → total rounded i f k ≡ total rounded i g k
@@ -157,24 +197,61 @@ unfolding total rounded
 total-same i f g zero h = refl
 total-same i f g (suc k) h = rw (total-same i f g k (λ m l. h m (omega arith)), h k (omega arith))
 
--- the terms so far, added up
-pub added : (i : Input) (n m : ℕ) (p d : List (List Float)) (q : Places) (t : List (List Float)) (acc : Xyz) → Row i n m p d q t → acc ≡ totals i (cellXyz t) m → Summed i n m p d q acc
-added i n m p d q t acc w e =
+-- the terms of all orders, added up
+pub added : (i : Input) (n : ℕ) (t : List (List Float)) (acc : Xyz) → ((m : ℕ) → m < n + 1 → cellXyz t m ≡ laneTerms i n m) → acc ≡ totals i (cellXyz t) (n + 1) → acc ≡ laneSums i n
+added i n t acc w e =
+    e ∙
+    rw (
+      total-same i (λ l. cellXyz t l .x) (λ l. laneTerms i n l .x) (n + 1) (λ l h. ap (λ (v : Xyz). v .x) (w l h)),
+      total-same i (λ l. cellXyz t l .y) (λ l. laneTerms i n l .y) (n + 1) (λ l h. ap (λ (v : Xyz). v .y) (w l h)),
+      total-same i (λ l. cellXyz t l .z) (λ l. laneTerms i n l .z) (n + 1) (λ l h. ap (λ (v : Xyz). v .z) (w l h)),
+    )
+
+-- the terms of all orders: those of the lanes, and in the last degree that of the order that has none
+pub all-terms : (i : Input) (n m : ℕ) (p d : List (List Float)) (q : Places) (t t' : List (List Float)) → n ≤ N-MAX → m ≤ N-MAX → (m < N-MAX → n < m) → Row i n m p d q t
+    → ((v : Xyz) × (n ≡ N-MAX) × (v ≡ laneTerms i n N-MAX) × (t' ≡ putTerm t N-MAX v)) ⊎ ((n ≡ N-MAX → ⊥) × (t' ≡ t))
+    → (k : ℕ) → k < n + 1 → cellXyz t' k ≡ laneTerms i n k
+all-terms i n m p d q t t' hn hm l w s k h =
+    ⊎-elim
+    (λ u. rw (u .3) (⊎-elim
+    (λ (e : k ≡ N-MAX). rw (e, term-same t N-MAX (u .0) (omega arith) (w .t-sized)) (u .2))
+    (λ e. term-other t N-MAX (u .0) (omega arith) (w .t-sized) k e ∙ w .terms-are k (⊎-elim (λ (a : m < N-MAX). omega (arith, l a)) (λ (a : N-MAX ≤ m). omega (arith, u .1)) (less-or m N-MAX)) (omega arith))
+    (same-or k N-MAX)))
+    (λ u. rw (u .1) (w .terms-are k (⊎-elim (λ (a : m < N-MAX). omega (arith, l a)) (λ (a : N-MAX ≤ m). (let g = u .0 in omega arith)) (less-or m N-MAX)) (omega arith)))
+    s
+
+-- all lanes that the degree has are done; the others are where they started
+pub lanes-end : (i : Input) (n j : ℕ) (p d : List (List Float)) (q : Places) → 4 * (j / 4) ≡ j → (j < N-MAX → n < j) → Lanes i n j p d q → Lanes i n N-MAX p d q
+lanes-end i n j p d q f l w =
     record {
-      rows = w .rows;
-      sums-are =
-          e ∙
-          rw (
-            total-same i (λ l. cellXyz t l .x) (x-term rounded i n) m (λ l h. ap (λ (v : Xyz). v .x) (w .terms-are l h)),
-            total-same i (λ l. cellXyz t l .y) (y-term rounded i n) m (λ l h. ap (λ (v : Xyz). v .y) (w .terms-are l h)),
-            total-same i (λ l. cellXyz t l .z) (z-term rounded i n) m (λ l h. ap (λ (v : Xyz). v .z) (w .terms-are l h)),
-          );
+      p-sized = w .p-sized;
+      d-sized = w .d-sized;
+      apart = w .apart;
+      prev1 = w .prev1;
+      prev2 = w .prev2;
+      done = λ m h hm.
+          ⊎-elim
+          (λ (a : m < j). w .done m h a)
+          (λ (a : j ≤ m). let b : n < j = l (omega arith) in w .rest m h a ∙ lane-idle i (n - 3) m (omega arith) ∙ sym (lane-idle i n m (omega arith)))
+          (less-or m j);
+      rest = λ m h hm. absurd (omega arith);
     }
 
--- all orders are done
-pub row-end : (i : Input) (n m : ℕ) (p d : List (List Float)) (q : Places) (acc : Xyz) → m ≡ n + 1 → Summed i n m p d q acc → (acc ≡ rowSums i n) × Rows i M-LEN n (n + 1) p d q
-unfolding x-row y-row z-row
-row-end i n m p d q acc e w = (rw (e, add-one) at (w .sums-are), rw e at (w .rows))
+-- the degree is done: its row becomes the row before
+lanes-rotate : (i : Input) (n : ℕ) (p d : List (List Float)) (q : Places) → 0 < n → Lanes i n N-MAX p d q → Lanes i (n + 1) 0 p d (rotated q)
+lanes-rotate i n p d q z w =
+    let u : n + 1 - 1 ≡ n = omega arith in
+    let v : n + 1 - 2 ≡ n - 1 = omega arith in
+    let t : n + 1 - 3 ≡ n - 2 = omega arith in
+    record {
+      p-sized = w .p-sized;
+      d-sized = w .d-sized;
+      apart = apart-rotate q (w .apart);
+      prev1 = λ m h. rw u (w .done m h h);
+      prev2 = λ m h. rw v (w .prev1 m h);
+      done = λ m h hm. absurd (not-suc-le-zero hm);
+      rest = λ m h hm. rw t (w .prev2 m h);
+    }
 
 more-degrees : (i : Input) (n : ℕ) (tot acc : Xyz) (ar : Float) → 0 < n → tot ≡ general i (n - 1) → ar ≡ power rounded i (n - 1) → acc ≡ rowSums i n
     → addDegree tot n ar acc ≡ general i (n + 1 - 1)
@@ -195,7 +272,7 @@ more-power i (suc j) ar z e =
 
 -- the invariant of the loop over the degrees
 pub record Outer (a : Lent) (n : ℕ) (p d : List (List Float)) (q : Places) (ar : Float) (tot : Xyz) : Type 0 where
-  pub rows : Rows (inputs a) M-LEN n 0 p d q
+  pub lanes : Lanes (inputs a) n 0 p d q
   pub ar-is : ar ≡ power rounded (inputs a) (n - 1)
   pub tot-is : tot ≡ general (inputs a) (n - 1)
 
@@ -209,46 +286,99 @@ places = record { prev2 = 0; prev1 = 1; cur = 2 }
 pub zeros-sized : Sized zeros
 zeros-sized = record { rows = refl; cells = λ k h. ap length (getD-replicate 3 k (replicate M-LEN (ofBits binary32 0)) [] h) }
 
+places-apart : Apart places
+places-apart = record {
+  prev2 = omega arith;
+  prev1 = omega arith;
+  cur = omega arith;
+  prev1-cur = λ e. omega arith;
+  prev2-cur = λ e. omega arith;
+  prev1-prev2 = λ e. omega arith;
+}
+
 pub rows-start : (i : Input) (M : ℕ) → Rows i M 1 0 (put zeros 1 0 (ofBits binary32 0x3f800000)) zeros places
 unfolding legendre rounded lit ofInt ofBits round
 rows-start i M =
     record {
       p-sized = put-sized zeros 1 0 (ofBits binary32 0x3f800000) (omega arith) (omega arith) zeros-sized;
       d-sized = zeros-sized;
-      apart = record {
-        prev2 = omega arith;
-        prev1 = omega arith;
-        cur = omega arith;
-        prev1-cur = λ e. omega arith;
-        prev2-cur = λ e. omega arith;
-        prev1-prev2 = λ e. omega arith;
-      };
+      apart = places-apart;
       prev1 = λ m hM h. let e : m ≡ 0 = omega arith in rw e;
       prev2 = λ m hM h. absurd (not-suc-le-zero h);
       cur = λ m hM h. absurd (not-suc-le-zero h);
     }
 
-pub start : (a : Lent) → Outer a 1 (put zeros 1 0 (ofBits binary32 0x3f800000)) zeros places (mul binary32 (mul binary32 (a .ratio) (a .ratio)) (a .ratio)) (record { x = ofBits binary32 0; y = ofBits binary32 0; z = ofBits binary32 0 })
+-- three rows of start values
+abbrev pub thrice : List Float → List (List Float)
+thrice l = l ∷ l ∷ l ∷ []
+
+thrice-at : (l : List Float) (k : ℕ) → k < 3 → getD (thrice l) k [] ≡ l
+thrice-at l zero h = refl
+thrice-at l (suc zero) h = refl
+thrice-at l (suc (suc zero)) h = refl
+thrice-at l (suc (suc (suc k))) h = absurd (omega arith)
+
+first-length : (f : ℕ → Float) (n : ℕ) → length (first f n) ≡ n
+unfolding first
+first-length f zero = refl
+first-length f (suc n) = ap suc (first-length (λ k. f (suc k)) n)
+
+thrice-sized : (f : ℕ → Float) → Sized (thrice (first f M-LEN))
+thrice-sized f = record { rows = refl; cells = λ k h. ap length (thrice-at (first f M-LEN) k h) ∙ first-length f M-LEN }
+
+start-cells : (a : Lent) (k m : ℕ) → k < 3 → m < N-MAX → cells (thrice (startsOf (a .cos-theta) (a .sin-theta) .p)) (thrice (startsOf (a .cos-theta) (a .sin-theta) .dp)) k m ≡ lane (inputs a) 0 m
+unfolding lane inputs startsOf
+start-cells a k m hk h =
+    let m13 : m < M-LEN = omega arith in
+    rw (thrice-at (startsOf (a .cos-theta) (a .sin-theta) .p) k hk, thrice-at (startsOf (a .cos-theta) (a .sin-theta) .dp) k hk, first-get (λ m. startAt (a .cos-theta) (a .sin-theta) m .fst) M-LEN m m13, first-get (λ m. startAt (a .cos-theta) (a .sin-theta) m .snd) M-LEN m m13) refl
+
+-- before the first degree every lane of every row is at its start value
+lanes-start : (a : Lent) → Lanes (inputs a) 1 0 (thrice (startsOf (a .cos-theta) (a .sin-theta) .p)) (thrice (startsOf (a .cos-theta) (a .sin-theta) .dp)) places
+lanes-start a = record {
+  p-sized = unfold startsOf in thrice-sized _;
+  d-sized = unfold startsOf in thrice-sized _;
+  apart = places-apart;
+  prev1 = λ m h. start-cells a 1 m (omega arith) h;
+  prev2 = λ m h. start-cells a 0 m (omega arith) h;
+  done = λ m h hm. absurd (not-suc-le-zero hm);
+  rest = λ m h hm. start-cells a 2 m (omega arith) h;
+}
+
+pub outer-start : (a : Lent) (s : Starts) → s ≡ startsOf (a .cos-theta) (a .sin-theta)
+    → Outer a 1 (thrice (s .p)) (thrice (s .dp)) places (mul binary32 (mul binary32 (a .ratio) (a .ratio)) (a .ratio)) (record { x = ofBits binary32 0; y = ofBits binary32 0; z = ofBits binary32 0 })
 unfolding inputs power rounded x-sum y-sum z-sum total
-start a =
-    record {
-      rows = rows-start (inputs a) M-LEN;
-      ar-is = refl;
-      tot-is = rw lit-zero;
-    }
+outer-start a s e = record { lanes = rw e (lanes-start a); ar-is = refl; tot-is = rw lit-zero }
+
+-- the order that has no lane
+pub last-is : (a : Lent) (s : Starts) → s ≡ startsOf (a .cos-theta) (a .sin-theta) → record { p = getD (s .p) N-MAX nan; dp = getD (s .dp) N-MAX nan } ≡ pdp (start (inputs a) N-MAX)
+unfolding inputs startsOf
+last-is a s e = rw (e, first-get (λ m. startAt (a .cos-theta) (a .sin-theta) m .fst) M-LEN N-MAX (omega arith), first-get (λ m. startAt (a .cos-theta) (a .sin-theta) m .snd) M-LEN N-MAX (omega arith)) refl
+
+-- the weights as the code writes them
+pub weighed : (a : Lent) (cw sw kw : List Float)
+    → ((j : ℕ) → j < W-LEN → getD cw j nan ≡ cond (ltb j N-MAX) (a .cos-theta) (ofBits binary32 0x3f800000))
+    → ((j : ℕ) → j < W-LEN → getD sw j nan ≡ cond (ltb j N-MAX) (a .sin-theta) (ofBits binary32 0))
+    → ((j : ℕ) → j < W-LEN → getD kw j nan ≡ cond (ltb j N-MAX) (ofBits binary32 0x3f800000) (ofBits binary32 0))
+    → Weighed (inputs a) cw sw kw
+unfolding inputs
+weighed a cw sw kw ec es ek = record {
+  cos-theta = λ j h. rw lit-one at (ec j h);
+  sin-theta = λ j h. rw lit-zero at (es j h);
+  k = λ j h. rw (lit-one, lit-zero) at (ek j h);
+}
 
 -- before the first order
-pub begin : (i : Input) (n : ℕ) (p d : List (List Float)) (q : Places) → Rows i M-LEN n 0 p d q → Row i n 0 p d q zeros
-begin i n p d q w = record { rows = w; t-sized = zeros-sized; terms-are = λ m h. absurd (not-suc-le-zero h) }
+pub begin : (i : Input) (n : ℕ) (p d : List (List Float)) (q : Places) → Lanes i n 0 p d q → Row i n 0 p d q zeros
+begin i n p d q w = record { lanes = w; t-sized = zeros-sized; terms-are = λ m h hm. absurd (not-suc-le-zero h) }
 
 pub next-degree : (a : Lent) (n : ℕ) (p₀ d₀ p d : List (List Float)) (q q' : Places) (acc tot tot' : Xyz) (ar : Float)
-    → 0 < n → Outer a n p₀ d₀ q ar tot → acc ≡ rowSums (inputs a) n → Rows (inputs a) M-LEN n (n + 1) p d q
+    → 0 < n → Outer a n p₀ d₀ q ar tot → acc ≡ rowSums (inputs a) n → Lanes (inputs a) n N-MAX p d q
     → tot' ≡ addDegree tot n ar acc → q' ≡ rotated q
     → Outer a (n + 1) p d q' (mul binary32 ar (a .ratio)) tot'
 unfolding inputs
 next-degree a n p₀ d₀ p d q q' acc tot tot' ar z o ea w ed eq =
     record {
-      rows = rw eq (rows-rotate (inputs a) M-LEN n (n + 1) p d q z (λ k hM h. h) w);
+      lanes = rw eq (lanes-rotate (inputs a) n p d q z w);
       ar-is = more-power (inputs a) n ar z (o .ar-is);
       tot-is = ed ∙ more-degrees (inputs a) n tot acc ar z (o .tot-is) (o .ar-is) ea;
     }

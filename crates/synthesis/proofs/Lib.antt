@@ -6,3 +6,7 @@ pub mod GeneralSum
 pub mod PoleSum
 pub mod Checked
 pub mod Carry
+pub mod Kept
+pub mod Seen
+pub mod LaneLaws
+pub mod AcceptedPlain

@@ -16,7 +16,7 @@ use Rattle.synthesis.specs.declared.Xyz.{Xyz}
 use Rattle.tables.specs.Degree.{M-LEN}
 use Rattle.synthesis.specs.Recurrence.{Input, legendre, step}
 use Rattle.synthesis.specs.Arithmetic.{Pair, pair, rounded}
-use Rattle.synthesis.specs.Code.{Holds, Rows, Sized, cell, cells, cellXyz, put, putTerm, rotated}
+use Rattle.synthesis.specs.Code.{Apart, Holds, Rows, Sized, cell, cells, cellXyz, put, putTerm, rotated}
 
 pub same-or : (a b : ℕ) → (a ≡ b) ⊎ (a ≡ b → ⊥)
 same-or a b = go (eqb a b) refl
@@ -25,7 +25,7 @@ same-or a b = go (eqb a b) refl
     go true e = inl (eqb-true a b e)
     go false e = inr (eqb-false a b e)
 
-less-or : (a b : ℕ) → (a < b) ⊎ (b ≤ a)
+pub less-or : (a b : ℕ) → (a < b) ⊎ (b ≤ a)
 less-or a b = go (ltb a b) refl
   where
     go : (t : Bool) → ltb a b ≡ t → (a < b) ⊎ (b ≤ a)
@@ -154,6 +154,16 @@ module _ (i : Input) (M n m : ℕ) (p d : List (List Float)) (q : Places) (z : 0
         }
 
 -- the degree is done: its row becomes the row before
+pub apart-rotate : (q : Places) → Apart q → Apart (rotated q)
+apart-rotate q w = record {
+  prev2 = w .prev1;
+  prev1 = w .cur;
+  cur = w .prev2;
+  prev1-cur = λ e. w .prev2-cur (sym e);
+  prev2-cur = w .prev1-prev2;
+  prev1-prev2 = λ e. w .prev1-cur (sym e);
+}
+
 pub rows-rotate : (i : Input) (M n j : ℕ) (p d : List (List Float)) (q : Places) → 0 < n → ((m : ℕ) → m < M → m < n + 1 → m < j) → Rows i M n j p d q → Rows i M (n + 1) 0 p d (rotated q)
 rows-rotate i M n j p d q z l w =
     let u : n + 1 - 1 ≡ n = omega arith in
@@ -161,14 +171,7 @@ rows-rotate i M n j p d q z l w =
     record {
       p-sized = w .p-sized;
       d-sized = w .d-sized;
-      apart = record {
-        prev2 = w .apart .prev1;
-        prev1 = w .apart .cur;
-        cur = w .apart .prev2;
-        prev1-cur = λ e. w .apart .prev2-cur (sym e);
-        prev2-cur = w .apart .prev1-prev2;
-        prev1-prev2 = λ e. w .apart .prev1-cur (sym e);
-      };
+      apart = apart-rotate q (w .apart);
       prev1 = λ m hM h. rw u (w .cur m hM (l m hM h));
       prev2 = λ m hM h. rw v (w .prev1 m hM (omega arith));
       cur = λ m hM h. absurd (not-suc-le-zero h);

@@ -1,19 +1,20 @@
 -- What each function of the code computes, in the recurrences' terms. Definitions only. The entry's contract cites `lent` alone.
 use mathlib.Core.Path.{_≡_}
 use mathlib.Core.List.{List, [], _∷_}
-use Prim.Native.Nat.{ℕ, zero, suc, _+_, _-_, _<_, _≤_}
+use Prim.Native.Nat.{ℕ, zero, suc, _+_, _*_, _-_, _/_, _<_, _≤_}
 use mathlib.Core.Bool.{Bool, _&&_, cond}
-use lib.Dec.{eqb}
+use lib.Dec.{eqb, ltb}
 use lib.ListN.{getD, set, length}
 use lib.Ieee.{Float, nan, binary32, ofBits, neg}
-use Rattle.tables.specs.Degree.{M-LEN, N-COEFF, place}
+use Rattle.tables.specs.Degree.{M-LEN, N-COEFF, N-LEGENDRE, N-MAX, place}
 use Rattle.synthesis.specs.declared.Xyz.{Xyz}
 use Rattle.synthesis.specs.declared.rows.Four.{Four}
 use Rattle.synthesis.specs.declared.rows.PDp.{PDp}
 use Rattle.synthesis.specs.declared.rows.Places.{Places}
 use Rattle.synthesis.specs.declared.angles.Angles.{Angles}
 use Rattle.synthesis.specs.declared.angles.SinCos.{SinCos}
-use Rattle.synthesis.specs.Recurrence.{Input, angle, coefficient, down, dps, g-at, gc, gs, h-at, legendre, lit, next-quotient, pole-east, pole-x, pole-y, pole-z, power, ps, step, total, x-row, x-sum, x-term, y-row, y-sum, y-term, z-row, z-sum, z-term}
+use Rattle.synthesis.specs.declared.lanes.Starts.{Starts}
+use Rattle.synthesis.specs.Recurrence.{Input, angle, coefficient, down, dps, g-at, gc, gs, h-at, legendre, lit, next-quotient, pole-east, pole-x, pole-y, pole-z, power, ps, step, total, x-row, x-sum, y-row, y-sum, z-row, z-sum}
 use Rattle.synthesis.specs.Sum.{Lent, POLE-ORDERS, main-cap, rate-cap}
 use Rattle.synthesis.specs.Arithmetic.{Pair, pair, rounded}
 use Rattle.exact.specs.Tests.{all-between}
@@ -44,6 +45,11 @@ put4 p k m a b c d = put (put (put (put p k m a) k (m + 1) b) k (m + 2) c) k (m 
 abbrev pub stepped : Float → Float → Float → ℕ → ℕ → List (List Float) → List (List Float) → Places → PDp
 stepped c s k n m p d q = pdp (step rounded c s k n m (cells p d (q .prev1) (m - 1)) (cells p d (q .prev1) m) (cells p d (q .prev2) m))
 
+-- the row step's last branch alone: q of degree n - 1, r of degree n - 2
+abbrev pub lowered : Float → Float → Float → Pair Float → Pair Float → Pair Float
+lowered c s k q r =
+    pair (rounded .less (rounded .times c (q .fst)) (rounded .times k (r .fst))) (rounded .less (rounded .less (rounded .times c (q .snd)) (rounded .times s (q .fst))) (rounded .times k (r .snd)))
+
 -- the row of degree n becomes that of n - 1, and so on
 abbrev pub rotated : Places → Places
 rotated q = record { prev2 = q .prev1; prev1 = q .cur; cur = q .prev2 }
@@ -65,6 +71,40 @@ anglesOf sin-lambda cos-lambda = record { sin = first (sinAt sin-lambda cos-lamb
 -- a list of coefficients at the date
 unfoldable pub atDate : List Float → List Float → Float → List Float
 atDate main secular t = first (λ k. coefficient rounded (getD main k nan) (getD secular k nan) t) N-COEFF
+
+-- ---- the lanes of the general path, one for each order
+-- P(m, m) and its derivative, where lane m starts
+unfoldable pub startAt : Float → Float → ℕ → Pair Float
+startAt c s zero = pair (lit 1) (lit 0)
+startAt c s (suc m) = let a = startAt c s m in pair (rounded .times s (a .fst)) (rounded .plus (rounded .times s (a .snd)) (rounded .times c (a .fst)))
+
+unfoldable pub startsOf : Float → Float → Starts
+startsOf c s = record { p = first (λ m. startAt c s m .fst) M-LEN; dp = first (λ m. startAt c s m .snd) M-LEN }
+
+abbrev pub start : Input → ℕ → Pair Float
+start i m = startAt (i .cos-theta) (i .sin-theta) m
+
+-- what a lane is multiplied by in degree n: one number below the degree, another from it on
+abbrev pub weight : Float → Float → ℕ → ℕ → Float
+weight below then n m = cond (ltb m n) below then
+
+-- the step of lane m in degree n: below the degree the row step's last branch, from it on the lane is kept
+unfoldable pub laneStep : Input → ℕ → ℕ → Pair Float → Pair Float → Pair Float
+laneStep i n m q r = lowered (weight (i .cos-theta) (lit 1) n m) (weight (i .sin-theta) (lit 0) n m) (rounded .times (i .K n m) (weight (lit 1) (lit 0) n m)) q r
+
+-- what lane m holds in degree n. Its four lanes are taken from the degree on that the first of them has
+unfoldable pub lane : Input → ℕ → ℕ → Pair Float
+lane i zero m = start i m
+lane i (suc zero) m = cond (ltb 1 (4 * (m / 4))) (start i m) (laneStep i 1 m (start i m) (start i m))
+lane i (suc (suc n)) m = cond (ltb (suc (suc n)) (4 * (m / 4))) (start i m) (laneStep i (suc (suc n)) m (lane i (suc n) m) (lane i n m))
+
+-- the places of the list of weights: those of degree n begin at N-MAX - n
+abbrev pub W-LEN : ℕ
+W-LEN = 2 * N-MAX
+
+-- lane m after a step, k its place in the table and w its place in the lists of weights
+abbrev pub loweredAt : ℕ → ℕ → ℕ → List Float → List Float → List Float → List Float → List (List Float) → List (List Float) → Places → PDp
+loweredAt m k w ks cw sw kw p d q = pdp (lowered (getD cw w nan) (getD sw w nan) (rounded .times (getD ks k nan) (getD kw w nan)) (cells p d (q .prev1) m) (cells p d (q .prev2) m))
 
 -- one order's terms of the three sums, o the order
 unfoldable pub termOf : Float → Float → PDp → Float → Float → Float → Float → Xyz
@@ -111,6 +151,14 @@ addDegree t n power a =
       z = rounded .plus (t .z) (down rounded n power (a .z));
     }
 
+-- the terms of degree n by order, from the lanes; order N-MAX has none and stays at its start value
+abbrev pub laneTerms : Input → ℕ → ℕ → Xyz
+laneTerms i n m =
+    termOf (lit m) (i .S n m) (pdp (cond (ltb m N-MAX) (lane i n m) (start i m))) (g-at rounded i n m) (h-at rounded i n m) (sinAt (i .sin-lambda) (i .cos-lambda) m) (cosAt (i .sin-lambda) (i .cos-lambda) m)
+
+abbrev pub laneSums : Input → ℕ → Xyz
+laneSums i n = totals i (laneTerms i n) (n + 1)
+
 -- what is lent, from its parts
 abbrev pub lent : Float → Float → Float → Float → Float → Float → List Float → List Float → List Float → List Float → Lent
 lent c s sl cl ratio t g h gd hd = record { cos-theta = c; sin-theta = s; sin-lambda = sl; cos-lambda = cl; ratio = ratio; offset = t; g = g; h = h; g-dot = gd; h-dot = hd }
@@ -147,36 +195,41 @@ pub record Rows (i : Input) (M n j : ℕ) (p d : List (List Float)) (q : Places)
   pub prev2 : Holds i M p d (q .prev2) (n - 2) (n - 1)
   pub cur : Holds i M p d (q .cur) n j
 
--- the terms of degree n by order, on the general path
-abbrev pub terms : Input → ℕ → ℕ → Xyz
-terms i n m = record { x = x-term rounded i n m; y = y-term rounded i n m; z = z-term rounded i n m }
+-- the lanes in degree n, those below j done; the others hold what they did three degrees before
+pub record Lanes (i : Input) (n j : ℕ) (p d : List (List Float)) (q : Places) : Type 0 where
+  pub p-sized : Sized p
+  pub d-sized : Sized d
+  pub apart : Apart q
+  pub prev1 : (m : ℕ) → m < N-MAX → cells p d (q .prev1) m ≡ lane i (n - 1) m
+  pub prev2 : (m : ℕ) → m < N-MAX → cells p d (q .prev2) m ≡ lane i (n - 2) m
+  pub done : (m : ℕ) → m < N-MAX → m < j → cells p d (q .cur) m ≡ lane i n m
+  pub rest : (m : ℕ) → m < N-MAX → j ≤ m → cells p d (q .cur) m ≡ lane i (n - 3) m
 
--- in degree n, the orders below j done, and their terms in the rows t
+-- the same, and the terms of the orders below j in the rows t
 pub record Row (i : Input) (n j : ℕ) (p d : List (List Float)) (q : Places) (t : List (List Float)) : Type 0 where
-  pub rows : Rows i M-LEN n j p d q
+  pub lanes : Lanes i n j p d q
   pub t-sized : Sized t
-  pub terms-are : (m : ℕ) → m < j → cellXyz t m ≡ terms i n m
-
--- the same, and their terms added up in acc
-pub record Summed (i : Input) (n j : ℕ) (p d : List (List Float)) (q : Places) (acc : Xyz) : Type 0 where
-  pub rows : Rows i M-LEN n j p d q
-  pub sums-are : acc ≡ totals i (terms i n) j
+  pub terms-are : (m : ℕ) → m < j → m ≤ n → cellXyz t m ≡ laneTerms i n m
 
 -- the sums of degree n over its orders
 abbrev pub rowSums : Input → ℕ → Xyz
 rowSums i n = record { x = x-row rounded i n; y = y-row rounded i n; z = z-row rounded i n }
 
--- what the code reads at each order is what the sums read: the pair of the colatitude, the two tables, the coefficients at the date, the orders, the angles
-pub record Given (i : Input) (c s : Float) (ks ss gt ht os sin cos : List Float) : Type 0 where
-  pub cos-theta : c ≡ i .cos-theta
-  pub sin-theta : s ≡ i .sin-theta
-  pub K : (n m : ℕ) → n < M-LEN → m ≤ n → getD ks (place n m) nan ≡ i .K n m
+-- what the code reads at each order is what the sums read: the two tables, the coefficients at the date, the orders, the angles
+pub record Given (i : Input) (ks ss gt ht os sin cos : List Float) : Type 0 where
+  pub K : (n m : ℕ) → place n m < N-LEGENDRE → getD ks (place n m) nan ≡ i .K n m
   pub S : (n m : ℕ) → n < M-LEN → m ≤ n → getD ss (place n m) nan ≡ i .S n m
   pub g : (n m : ℕ) → 0 < n → n < M-LEN → m ≤ n → getD gt (place n m - 1) nan ≡ g-at rounded i n m
   pub h : (n m : ℕ) → 0 < n → n < M-LEN → m ≤ n → getD ht (place n m - 1) nan ≡ h-at rounded i n m
   pub order : (m : ℕ) → m < M-LEN → getD os m nan ≡ lit m
   pub sin-is : (m : ℕ) → m < M-LEN → getD sin m nan ≡ angle rounded (i .sin-lambda) (i .cos-lambda) m .fst
   pub cos-is : (m : ℕ) → m < M-LEN → getD cos m nan ≡ angle rounded (i .sin-lambda) (i .cos-lambda) m .snd
+
+-- the three lists of weights: before P and its derivative, before P in the derivative, before k
+pub record Weighed (i : Input) (cw sw kw : List Float) : Type 0 where
+  pub cos-theta : (j : ℕ) → j < W-LEN → getD cw j nan ≡ cond (ltb j N-MAX) (i .cos-theta) (lit 1)
+  pub sin-theta : (j : ℕ) → j < W-LEN → getD sw j nan ≡ cond (ltb j N-MAX) (i .sin-theta) (lit 0)
+  pub k : (j : ℕ) → j < W-LEN → getD kw j nan ≡ cond (ltb j N-MAX) (lit 1) (lit 0)
 
 -- ---- the checks
 -- every entry of the four lists is within its cap

@@ -28,7 +28,7 @@ pub by-same : {x y x' y' : Float} → x ≡ x' → y ≡ y' → Same x' y' → S
 by-same p q h = rw (p, q) h
 
 -- a zero rounds to a zero
-round-null : (s : Bool) (a c : ℕ) → a ≡ 0 → 0 < c → round binary32 s a c ≡ null s
+pub round-null : (s : Bool) (a c : ℕ) → a ≡ 0 → 0 < c → round binary32 s a c ≡ null s
 unfolding round
 round-null s a c e C = ap (λ (z : ℕ). round binary32 s z c) e ∙ round-same binary32 s 0 c 0 1 C (zero-lt-suc 0) (omega arith)
 
@@ -54,7 +54,7 @@ sum-left true false b c = rw (lt-ltb 0 (suc b) (zero-lt-suc b), sub-zero)
 sum-left false true b c = rw (lt-ltb 0 (suc b) (zero-lt-suc b), sub-zero)
 sum-left false false b c = ap (λ (z : ℕ). round binary32 false z c) (zero-add (suc b))
 
-sum-right : (s t : Bool) (b c : ℕ) → sum binary32 t (suc b) s 0 c ≡ round binary32 t (suc b) c
+pub sum-right : (s t : Bool) (b c : ℕ) → sum binary32 t (suc b) s 0 c ≡ round binary32 t (suc b) c
 unfolding sum
 sum-right true true b c = ap (λ (z : ℕ). round binary32 true z c) (add-zero (suc b))
 sum-right true false b c = rw (le-ltb (suc b) 0 (omega arith), sub-zero)
@@ -70,16 +70,16 @@ null-right s t u a zero c e C = rw e (sum-nulls u u s t c C)
 null-right s t u a (suc b) c e C = rw e (by-same (sum-right s u b c) (sum-right t u b c) same)
 
 -- zero times anything, as a sum and a product write it
-gone : (a b : ℕ) → 0 * a * b ≡ 0
+pub gone : (a b : ℕ) → 0 * a * b ≡ 0
 gone a b = omega arith
 
-add-left : (s t : Bool) (y : Float) → Same (add binary32 (null s) y) (add binary32 (null t) y)
+pub add-left : (s t : Bool) (y : Float) → Same (add binary32 (null s) y) (add binary32 (null t) y)
 unfolding add
 add-left s t nan = same
 add-left s t (inf u) = same
 add-left s t (fin u n d) = null-left s t u _ _ _ (gone 1 (down d)) (mul-pos (zero-lt-suc 0) (down-pos d))
 
-add-right : (s t : Bool) (x : Float) → Same (add binary32 x (null s)) (add binary32 x (null t))
+pub add-right : (s t : Bool) (x : Float) → Same (add binary32 x (null s)) (add binary32 x (null t))
 unfolding add
 add-right s t nan = same
 add-right s t (inf u) = same

@@ -4,23 +4,26 @@ use crate::N_COEFF;
 use crate::Xyz;
 use crate::angles::sin_cos_m_lambda;
 use crate::date::at_date;
+use crate::lanes::W_LEN;
+use crate::lanes::below_then;
+use crate::lanes::start_values;
 use crate::rows::Four;
 use crate::rows::PDp;
 use crate::rows::Places;
-use crate::rows::gauss_norm_p_dp;
 use crate::rows::legendre_index;
 use crate::rows::lower_four;
 use crate::rows::put_four;
-use crate::rows::put_p_dp;
 use crate::rows::rotate_row_indices;
 use tables::N_LEGENDRE;
+use tables::N_MAX;
 ghost use mathlib.Core.Path.{_≡_};
-ghost use Prim.Native.Nat.{_+_, _<_, _≤_};
+ghost use Prim.Native.Nat.{_+_, _*_, _/_, _<_, _≤_};
 ghost use lib.ListN.{length};
 ghost use Rattle.tables.specs.Degree.{N-MAX, M-LEN, N-COEFF, N-LEGENDRE};
 ghost use Rattle.synthesis.specs.Sum.{inputs};
+ghost use Rattle.synthesis.specs.Demand.{Accepted};
 ghost use Rattle.synthesis.specs.Recurrence.{Input, lit};
-ghost use Rattle.synthesis.specs.Code.{Given, Row, Rows, Summed, addDegree, cellXyz, first, general, lent, put4Terms, putTerm, rowSums, termAt, totals};
+ghost use Rattle.synthesis.specs.Code.{Given, Lanes, Row, Weighed, addDegree, cellXyz, first, general, laneSums, lent, pdp, put4Terms, putTerm, start, termAt, totals};
 
 // The orders as f32. Read from a table, taken once a call: a conversion does not run by lanes.
 const ORDERS: [f32; M_LEN] = [
@@ -114,13 +117,14 @@ pub fn put_four_terms(
     put_term(m + 3, v3, t);
 }
 
-// Orders m to m + 3 of degree n, all of them at most n - 2.
+// The lanes m to m + 3 in degree n. What stands in a lane above the degree is not added up.
 pub fn four_orders(
     n: usize,
     m: usize,
-    c: f32,
-    s: f32,
     ks: &[f32; N_LEGENDRE],
+    cw: &[f32; W_LEN],
+    sw: &[f32; W_LEN],
+    kw: &[f32; W_LEN],
     ss: &[f32; N_LEGENDRE],
     gt: &[f32; N_COEFF],
     ht: &[f32; N_COEFF],
@@ -132,13 +136,14 @@ pub fn four_orders(
     q: Places,
     t: &mut [[f32; M_LEN]; 3],
 )
-    requires { ⌜ (n < M-LEN) × (m + 5 ≤ n) × (q .prev1 < 3) × (q .prev2 < 3) × (q .cur < 3) ⌝ }
-    ensures { λ _. ⌜ ((i : Input) → Given i c s (now (ks .entry)) (now (ss .entry)) (now (gt .entry)) (now (ht .entry)) (now (os .entry)) (now (sin .entry)) (now (cos .entry))
+    requires { ⌜ (0 < n) × (n < M-LEN) × (m ≤ n) × (m + 3 < N-MAX) × (4 * (m / 4) ≡ m) × (q .prev1 < 3) × (q .prev2 < 3) × (q .cur < 3) ⌝ }
+    ensures { λ _. ⌜ ((i : Input) → Given i (now (ks .entry)) (now (ss .entry)) (now (gt .entry)) (now (ht .entry)) (now (os .entry)) (now (sin .entry)) (now (cos .entry))
+        → Weighed i (now (cw .entry)) (now (sw .entry)) (now (kw .entry))
         → Row i n m (now (p .entry)) (now (dp .entry)) q (now (t .entry)) → Row i n (m + 4) (now (p .exit)) (now (dp .exit)) q (now (t .exit))) ⌝ }
 {
     let i = legendre_index(n, m);
     let cur = q.cur;
-    let r = lower_four(m, i, c, s, ks, p, dp, q);
+    let r = lower_four(m, i, m + N_MAX - n, ks, cw, sw, kw, p, dp, q);
     put_four(m, r, p, dp, cur);
     put_four_terms(m, i, r, ss, gt, ht, os, sin, cos, t);
 }
@@ -159,47 +164,14 @@ pub fn add_terms(count: usize, t: &[[f32; M_LEN]; 3]) -> Xyz
     Xyz { x, y, z }
 }
 
-// Order m of degree n: its P, and its part of the sums of its degree.
-pub fn one_order(
-    n: usize,
-    m: usize,
-    c: f32,
-    s: f32,
-    ks: &[f32; N_LEGENDRE],
-    ss: &[f32; N_LEGENDRE],
-    gt: &[f32; N_COEFF],
-    ht: &[f32; N_COEFF],
-    os: &[f32; M_LEN],
-    sin: &[f32; M_LEN],
-    cos: &[f32; M_LEN],
-    p: &mut [[f32; M_LEN]; 3],
-    dp: &mut [[f32; M_LEN]; 3],
-    q: Places,
-    acc: Xyz,
-) -> Xyz
-    requires { ⌜ (0 < n) × (n < M-LEN) × (m ≤ n) × (q .prev1 < 3) × (q .prev2 < 3) × (q .cur < 3) ⌝ }
-    ensures { λ r. ⌜ ((i : Input) → Given i c s (now (ks .entry)) (now (ss .entry)) (now (gt .entry)) (now (ht .entry)) (now (os .entry)) (now (sin .entry)) (now (cos .entry))
-        → Summed i n m (now (p .entry)) (now (dp .entry)) q acc → Summed i n (m + 1) (now (p .exit)) (now (dp .exit)) q r) ⌝ }
-{
-    let i = legendre_index(n, m);
-    let cur = q.cur;
-    let r = gauss_norm_p_dp(n, m, ks[i], c, s, p, dp, q);
-    put_p_dp(m, r, p, dp, cur);
-    let v = term(m, i, r, ss, gt, ht, os, sin, cos);
-    Xyz {
-        x: acc.x + v.x,
-        y: acc.y + v.y,
-        z: acc.z + v.z,
-    }
-}
-
-// The sums of degree n, its row filled from those of the two degrees before: four orders at a time
-// while all four are at most n - 2, the rest one by one.
+// The sums of degree n, its row filled from those of the two degrees before. The last order of the
+// last degree has no lane: its P is `last`.
 pub fn degree(
     n: usize,
-    c: f32,
-    s: f32,
     ks: &[f32; N_LEGENDRE],
+    cw: &[f32; W_LEN],
+    sw: &[f32; W_LEN],
+    kw: &[f32; W_LEN],
     ss: &[f32; N_LEGENDRE],
     gt: &[f32; N_COEFF],
     ht: &[f32; N_COEFF],
@@ -209,23 +181,44 @@ pub fn degree(
     p: &mut [[f32; M_LEN]; 3],
     dp: &mut [[f32; M_LEN]; 3],
     q: Places,
+    last: PDp,
 ) -> Xyz
     requires { ⌜ (0 < n) × (n < M-LEN) × (q .prev1 < 3) × (q .prev2 < 3) × (q .cur < 3) ⌝ }
-    ensures { λ r. ⌜ ((i : Input) → Given i c s (now (ks .entry)) (now (ss .entry)) (now (gt .entry)) (now (ht .entry)) (now (os .entry)) (now (sin .entry)) (now (cos .entry))
-        → Rows i M-LEN n 0 (now (p .entry)) (now (dp .entry)) q → (r ≡ rowSums i n) × Rows i M-LEN n (n + 1) (now (p .exit)) (now (dp .exit)) q) ⌝ }
+    ensures { λ r. ⌜ ((i : Input) → Given i (now (ks .entry)) (now (ss .entry)) (now (gt .entry)) (now (ht .entry)) (now (os .entry)) (now (sin .entry)) (now (cos .entry))
+        → Weighed i (now (cw .entry)) (now (sw .entry)) (now (kw .entry)) → last ≡ pdp (start i N-MAX)
+        → Lanes i n 0 (now (p .entry)) (now (dp .entry)) q → (r ≡ laneSums i n) × Lanes i n N-MAX (now (p .exit)) (now (dp .exit)) q) ⌝ }
 {
     let mut t = [[0.0f32; M_LEN]; 3];
     let mut m = 0usize;
-    while m + 5 <= n {
-        four_orders(n, m, c, s, ks, ss, gt, ht, os, sin, cos, p, dp, q, &mut t);
+    while m <= n && m < N_MAX {
+        four_orders(
+            n,
+            m,
+            ks,
+            cw,
+            sw,
+            kw,
+            ss,
+            gt,
+            ht,
+            os,
+            sin,
+            cos,
+            p,
+            dp,
+            q,
+            &mut t,
+        );
         m += 4;
     }
-    let mut acc = add_terms(m, &t);
-    while m <= n {
-        acc = one_order(n, m, c, s, ks, ss, gt, ht, os, sin, cos, p, dp, q, acc);
-        m += 1;
+    if n == N_MAX {
+        put_term(
+            N_MAX,
+            term(N_MAX, N_LEGENDRE - 1, last, ss, gt, ht, os, sin, cos),
+            &mut t,
+        );
     }
-    acc
+    add_terms(n + 1, &t)
 }
 
 // One degree's part of the sums.
@@ -253,6 +246,7 @@ pub fn synthesize_xyz_prime(
     time_delta: f32,
 ) -> Xyz
     requires { ⌜ (length (now g) ≡ N-COEFF) × (length (now h) ≡ N-COEFF) × (length (now «g_dot») ≡ N-COEFF) × (length (now «h_dot») ≡ N-COEFF) ⌝ }
+    requires { ⌜ Accepted (lent «cos_theta» «sin_theta» «sin_lambda» «cos_lambda» ratio «time_delta» (now g) (now h) (now «g_dot») (now «h_dot»)) ⌝ }
     ensures { λ r. ⌜ r ≡ general (inputs (lent «cos_theta» «sin_theta» «sin_lambda» «cos_lambda» ratio «time_delta» (now (g .entry)) (now (h .entry)) (now («g_dot» .entry)) (now («h_dot» .entry)))) N-MAX ⌝ }
 {
     let a = sin_cos_m_lambda(sin_lambda, cos_lambda);
@@ -263,9 +257,16 @@ pub fn synthesize_xyz_prime(
     let os = orders();
     let sin = a.sin;
     let cos = a.cos;
-    let mut p = [[0.0f32; M_LEN]; 3];
-    let mut dp = [[0.0f32; M_LEN]; 3];
-    p[1][0] = 1.0;
+    let cw = below_then(cos_theta, 1.0);
+    let sw = below_then(sin_theta, 0.0);
+    let kw = below_then(1.0, 0.0);
+    let d = start_values(cos_theta, sin_theta);
+    let last = PDp {
+        p: d.p[N_MAX],
+        dp: d.dp[N_MAX],
+    };
+    let mut p = [d.p, d.p, d.p];
+    let mut dp = [d.dp, d.dp, d.dp];
     let mut q = Places {
         prev2: 0,
         prev1: 1,
@@ -280,9 +281,10 @@ pub fn synthesize_xyz_prime(
     for n in 1..M_LEN {
         let acc = degree(
             n,
-            cos_theta,
-            sin_theta,
             &ks,
+            &cw,
+            &sw,
+            &kw,
             &ss,
             &gt,
             &ht,
@@ -292,6 +294,7 @@ pub fn synthesize_xyz_prime(
             &mut p,
             &mut dp,
             q,
+            last,
         );
         tot = add_degree(tot, n, power, acc);
         power = power * ratio;

@@ -12,6 +12,7 @@ mod angles;
 mod checks;
 mod date;
 mod general;
+mod lanes;
 mod near_pole;
 mod paths;
 mod rows;

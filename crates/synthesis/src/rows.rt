@@ -1,12 +1,11 @@
 // P and its derivative, row by row: three rows of thirteen, whose roles rotate after each degree.
 use crate::M_LEN;
+use crate::lanes::W_LEN;
 use tables::N_LEGENDRE;
 ghost use mathlib.Core.Path.{_≡_};
-ghost use Prim.Native.Nat.{ℕ, _+_, _*_, _-_, _/_, _<_, _≤_};
+ghost use Prim.Native.Nat.{_+_, _*_, _-_, _/_, _<_, _≤_};
 ghost use Rattle.tables.specs.Degree.{M-LEN, N-COEFF, N-LEGENDRE, place};
-ghost use lib.ListN.{getD};
-ghost use lib.Ieee.{nan};
-ghost use Rattle.synthesis.specs.Code.{put, put4, rotated, stepped};
+ghost use Rattle.synthesis.specs.Code.{W-LEN, cells, lowered, loweredAt, pdp, put, put4, rotated, stepped};
 
 // P and its derivative with respect to the colatitude.
 pub struct PDp {
@@ -53,8 +52,7 @@ pub fn rotate_row_indices(q: Places) -> Places
     }
 }
 
-// Orders m ≤ n - 2 of degree n: the last branch of `gauss_norm_p_dp`. A function of its own, so that
-// four orders run as lanes with no branch between them.
+// The last branch of `gauss_norm_p_dp`. A function of its own, since the lanes take it alone.
 pub fn lower_p_dp(
     m: usize,
     k: f32,
@@ -65,7 +63,7 @@ pub fn lower_p_dp(
     q: Places,
 ) -> PDp
     requires { ⌜ (m < M-LEN) × (q .prev1 < 3) × (q .prev2 < 3) ⌝ }
-    ensures { λ r. ⌜ ((n : ℕ) → m + 2 ≤ n → r ≡ stepped «cos_theta» «sin_theta» k n m (now (p .entry)) (now (dp .entry)) q) ⌝ }
+    ensures { λ r. ⌜ r ≡ pdp (lowered «cos_theta» «sin_theta» k (cells (now (p .entry)) (now (dp .entry)) (q .prev1) m) (cells (now (p .entry)) (now (dp .entry)) (q .prev2) m)) ⌝ }
 {
     let i1 = q.prev1;
     let i2 = q.prev2;
@@ -79,29 +77,48 @@ pub fn lower_p_dp(
     }
 }
 
-// Orders m to m + 3, their k from place i of the table on. All are read before any is stored, so
-// that they run as lanes.
+// Lane m, its k at place i of the table, and what it is multiplied by at place w.
+pub fn lower_lane(
+    m: usize,
+    i: usize,
+    w: usize,
+    ks: &[f32; N_LEGENDRE],
+    cw: &[f32; W_LEN],
+    sw: &[f32; W_LEN],
+    kw: &[f32; W_LEN],
+    p: &[[f32; M_LEN]; 3],
+    dp: &[[f32; M_LEN]; 3],
+    q: Places,
+) -> PDp
+    requires { ⌜ (m < M-LEN) × (i < N-LEGENDRE) × (w < W-LEN) × (q .prev1 < 3) × (q .prev2 < 3) ⌝ }
+    ensures { λ r. ⌜ r ≡ loweredAt m i w (now (ks .entry)) (now (cw .entry)) (now (sw .entry)) (now (kw .entry)) (now (p .entry)) (now (dp .entry)) q ⌝ }
+{
+    lower_p_dp(m, ks[i] * kw[w], cw[w], sw[w], p, dp, q)
+}
+
+// The lanes m to m + 3. All are read before any is stored, so that they run at once.
 pub fn lower_four(
     m: usize,
     i: usize,
-    cos_theta: f32,
-    sin_theta: f32,
+    w: usize,
     ks: &[f32; N_LEGENDRE],
+    cw: &[f32; W_LEN],
+    sw: &[f32; W_LEN],
+    kw: &[f32; W_LEN],
     p: &[[f32; M_LEN]; 3],
     dp: &[[f32; M_LEN]; 3],
     q: Places,
 ) -> Four
-    requires { ⌜ (m + 3 < M-LEN) × (i + 3 < N-LEGENDRE) × (q .prev1 < 3) × (q .prev2 < 3) ⌝ }
-    ensures { λ r. ⌜ ((n : ℕ) → m + 5 ≤ n
-        → (r .r0 ≡ stepped «cos_theta» «sin_theta» (getD (now (ks .entry)) i nan) n m (now (p .entry)) (now (dp .entry)) q)
-        × (r .r1 ≡ stepped «cos_theta» «sin_theta» (getD (now (ks .entry)) (i + 1) nan) n (m + 1) (now (p .entry)) (now (dp .entry)) q)
-        × (r .r2 ≡ stepped «cos_theta» «sin_theta» (getD (now (ks .entry)) (i + 2) nan) n (m + 2) (now (p .entry)) (now (dp .entry)) q)
-        × (r .r3 ≡ stepped «cos_theta» «sin_theta» (getD (now (ks .entry)) (i + 3) nan) n (m + 3) (now (p .entry)) (now (dp .entry)) q)) ⌝ }
+    requires { ⌜ (m + 3 < M-LEN) × (i + 3 < N-LEGENDRE) × (w + 3 < W-LEN) × (q .prev1 < 3) × (q .prev2 < 3) ⌝ }
+    ensures { λ r. ⌜ (r .r0 ≡ loweredAt m i w (now (ks .entry)) (now (cw .entry)) (now (sw .entry)) (now (kw .entry)) (now (p .entry)) (now (dp .entry)) q)
+        × (r .r1 ≡ loweredAt (m + 1) (i + 1) (w + 1) (now (ks .entry)) (now (cw .entry)) (now (sw .entry)) (now (kw .entry)) (now (p .entry)) (now (dp .entry)) q)
+        × (r .r2 ≡ loweredAt (m + 2) (i + 2) (w + 2) (now (ks .entry)) (now (cw .entry)) (now (sw .entry)) (now (kw .entry)) (now (p .entry)) (now (dp .entry)) q)
+        × (r .r3 ≡ loweredAt (m + 3) (i + 3) (w + 3) (now (ks .entry)) (now (cw .entry)) (now (sw .entry)) (now (kw .entry)) (now (p .entry)) (now (dp .entry)) q) ⌝ }
 {
-    let r0 = lower_p_dp(m, ks[i], cos_theta, sin_theta, p, dp, q);
-    let r1 = lower_p_dp(m + 1, ks[i + 1], cos_theta, sin_theta, p, dp, q);
-    let r2 = lower_p_dp(m + 2, ks[i + 2], cos_theta, sin_theta, p, dp, q);
-    let r3 = lower_p_dp(m + 3, ks[i + 3], cos_theta, sin_theta, p, dp, q);
+    let r0 = lower_lane(m, i, w, ks, cw, sw, kw, p, dp, q);
+    let r1 = lower_lane(m + 1, i + 1, w + 1, ks, cw, sw, kw, p, dp, q);
+    let r2 = lower_lane(m + 2, i + 2, w + 2, ks, cw, sw, kw, p, dp, q);
+    let r3 = lower_lane(m + 3, i + 3, w + 3, ks, cw, sw, kw, p, dp, q);
     Four { r0, r1, r2, r3 }
 }
 

@@ -1,7 +1,7 @@
 -- `synthesis::sum` meets its contract: each return is a law of proofs/Checked.antt. Assumes nothing.
-use mathlib.Core.Path.{refl}
+use mathlib.Core.Path.{refl, sym}
 use borrow.Author.Needs.{needs}
-use Rattle.synthesis.proofs.Checked.{refused-numbers, refused-lists, summed, answer-close, accepted-long}
+use Rattle.synthesis.proofs.Checked.{refused-numbers, refused-lists, summed, answer-accepted, answer-close, accepted-long}
 use Rattle.synthesis.proofs.sum.Statement.{statement}
 use Rattle.synthesis.proofs.sum.Tie as tie
 
@@ -40,7 +40,10 @@ enum-told-2 c = search needs
 synthesize-geocentric-xyz-requires : tie.Need-synthesize-geocentric-xyz-requires
 synthesize-geocentric-xyz-requires c κs =
     let l = c .before .before in
-    accepted-long _ _ _ _ _ (l .check-lists .ensures) (c .enum-told2 .given .1)
+    let o = l .before in
+    let k = o .before .before in
+    let e = summed _ _ (k .check-numbers .ensures) (o .enum-told .given .1) _ (l .check-lists .ensures) (c .enum-told2 .given .1) _ refl in
+    (accepted-long _ _ _ _ _ (l .check-lists .ensures) (c .enum-told2 .given .1), answer-accepted _ _ (sym e) .0)
 
 returns-3 : tie.Need-returns-3
 returns-3 c =

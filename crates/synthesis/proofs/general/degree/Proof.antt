@@ -1,75 +1,85 @@
--- `synthesis::general::degree` meets its contract. Each loop goes on from what it begins with. Assumes nothing.
-use Prim.Native.Nat.{_+_, _-_, _≤_}
+-- `synthesis::general::degree` meets its contract. The loop goes on from what it begins with. Assumes nothing.
+use mathlib.Core.Path.{_≡_, _∙_}
+use mathlib.Core.Logic.{⊎-elim, inl, inr}
+use Prim.Native.Nat.{_*_, _-_, _/_, _<_, _≤_}
 use native.Mathlib.Omega.{arith}
 use borrow.Author.Needs.{needs}
+use borrow.Author.Tests.{ltb-false, ltb-true}
+use Rattle.tables.specs.Degree.{N-MAX}
 use Rattle.synthesis.specs.Recurrence.{Input}
-use Rattle.synthesis.specs.Code.{Given, Row, Summed}
-use Rattle.synthesis.proofs.GeneralSum.{added, begin, row-end}
+use Rattle.synthesis.specs.Code.{Given, Row, Weighed}
+use Rattle.synthesis.proofs.GeneralSum.{added, all-terms, begin, last-term, lanes-end}
 use Rattle.synthesis.proofs.general.degree.Statement.{statement}
 use Rattle.synthesis.proofs.general.degree.Tie as tie
 
 abbrev Inv-loop : tie.InvT-loop
-Inv-loop n c s ks ss gt ht os sin cos p₀ dp₀ q t₀ m₀ p dp t m =
-    (m ≤ n) × ((i : Input) → Given i c s ks ss gt ht os sin cos → Row i n m₀ p₀ dp₀ q t₀ → Row i n m p dp q t)
+Inv-loop n ks cw sw kw ss gt ht os sin cos p₀ dp₀ q last t₀ m₀ p dp t m =
+    (4 * (m / 4) ≡ m) × (m ≤ N-MAX)
+    × ((i : Input) → Given i ks ss gt ht os sin cos → Weighed i cw sw kw → Row i n m₀ p₀ dp₀ q t₀ → Row i n m p dp q t)
 
 abbrev μ-loop : tie.MeasureT-loop
-μ-loop n c s ks ss gt ht os sin cos p₀ dp₀ q t₀ m₀ p dp t m = n - m
+μ-loop n ks cw sw kw ss gt ht os sin cos p₀ dp₀ q last t₀ m₀ p dp t m = N-MAX - m
 
-abbrev Inv-loop2 : tie.InvT-loop2
-Inv-loop2 n c s ks ss gt ht os sin cos p₀ dp₀ q m₀ acc₀ p dp m acc =
-    (m ≤ n + 1) × ((i : Input) → Given i c s ks ss gt ht os sin cos → Summed i n m₀ p₀ dp₀ q acc₀ → Summed i n m p dp q acc)
+loop-holds : tie.Need-loop-holds Inv-loop μ-loop
+loop-holds c = (search needs, search needs, λ i G W w. w)
 
-abbrev μ-loop2 : tie.MeasureT-loop2
-μ-loop2 n c s ks ss gt ht os sin cos p₀ dp₀ q m₀ acc₀ p dp m acc = n + 1 - m
+four-orders-requires : tie.Need-four-orders-requires Inv-loop μ-loop
+four-orders-requires c κs =
+    let y = c .before .before .before in
+    let l = y .before .before in
+    let h = l .before .pre in
+    let s = ltb-true (l .loop .m) N-MAX (y .if1 .taken) in
+    (h .0, h .1, search needs, omega (arith, l .loop .inv .0), l .loop .inv .0, h .2, h .3, h .4)
 
-loop-holds : tie.Need-loop-holds Inv-loop μ-loop Inv-loop2 μ-loop2
-loop-holds c = (search needs, λ i G w. w)
-
-add-loop : tie.Need-add-loop Inv-loop μ-loop Inv-loop2 μ-loop2
-add-loop c = search needs
-
-four-orders-requires : tie.Need-four-orders-requires Inv-loop μ-loop Inv-loop2 μ-loop2
-four-orders-requires c κs = search needs
-
-add-m : tie.Need-add-m Inv-loop μ-loop Inv-loop2 μ-loop2
+add-m : tie.Need-add-m Inv-loop μ-loop
 add-m c = search needs
 
-loop-less : tie.Need-loop-less Inv-loop μ-loop Inv-loop2 μ-loop2
-loop-less c = search needs
+loop-less : tie.Need-loop-less Inv-loop μ-loop
+loop-less c =
+    let y = c .before .before .before .before in
+    let s = ltb-true (y .before .before .loop .m) N-MAX (y .if1 .taken) in
+    omega arith
 
-loop-again : tie.Need-loop-again Inv-loop μ-loop Inv-loop2 μ-loop2
+loop-again : tie.Need-loop-again Inv-loop μ-loop
 loop-again c =
-    let l = c .before .before .before .before .before in
-    (search needs, λ i G w. c .four-orders .ensures i G (l .loop .inv .1 i G w))
+    let y = c .before .before .before .before in
+    let l = y .before .before in
+    let s = ltb-true (l .loop .m) N-MAX (y .if1 .taken) in
+    (omega (arith, l .loop .inv .0), omega (arith, l .loop .inv .0), λ i G W w. c .four-orders .ensures i G W (l .loop .inv .2 i G W w))
 
-add-terms-requires : tie.Need-add-terms-requires Inv-loop μ-loop Inv-loop2 μ-loop2
+sub-term : tie.Need-sub-term Inv-loop μ-loop
+sub-term c = search needs
+
+term-requires : tie.Need-term-requires Inv-loop μ-loop
+term-requires c κs = search needs
+
+put-term-requires : tie.Need-put-term-requires Inv-loop μ-loop
+put-term-requires c κs = search needs
+
+add-add-terms : tie.Need-add-add-terms Inv-loop μ-loop
+add-add-terms c = search needs
+
+add-terms-requires : tie.Need-add-terms-requires Inv-loop μ-loop
 add-terms-requires c κs = search needs
 
-loop2-holds : tie.Need-loop2-holds Inv-loop μ-loop Inv-loop2 μ-loop2
-loop2-holds c = (search needs, λ i G w. w)
-
-one-order-requires : tie.Need-one-order-requires Inv-loop μ-loop Inv-loop2 μ-loop2
-one-order-requires c κs = search needs
-
-add-m-2 : tie.Need-add-m-2 Inv-loop μ-loop Inv-loop2 μ-loop2
-add-m-2 c = search needs
-
-loop2-less : tie.Need-loop2-less Inv-loop μ-loop Inv-loop2 μ-loop2
-loop2-less c = search needs
-
-loop2-again : tie.Need-loop2-again Inv-loop μ-loop Inv-loop2 μ-loop2
-loop2-again c =
-    let l = c .before .before .before .before in
-    (search needs, λ i G w. c .one-order .ensures i G (l .loop2 .inv .1 i G w))
-
-returns : tie.Need-returns Inv-loop μ-loop Inv-loop2 μ-loop2
-returns c = λ i G w.
-    let l2 = c .before in
-    let a = l2 .before in
-    let l = a .before .before .before in
+returns : tie.Need-returns Inv-loop μ-loop
+returns c = λ i G W e w.
+    let j = c .before .before in
+    let x = j .before in
+    let l = x .before in
     let n = l .before .args .n in
-    let v = l .loop .inv .1 i G (begin i n _ _ _ w) in
-    row-end i n (l2 .loop2 .m) _ _ _ _ (omega arith) (l2 .loop2 .inv .1 i G (added i n (l .loop .m) _ _ _ _ _ v (a .add-terms .ensures i)))
+    let h = l .before .pre in
+    let v = l .loop .inv .2 i G W (begin i n _ _ _ w) in
+    let a : l .loop .m < N-MAX → n < l .loop .m = λ g. ⊎-elim (λ u. absurd (omega (arith, g, ltb-false (l .loop .m) N-MAX (u .1 .left)))) (λ u. u .left) (x .loop-test .came) in (
+      added i n (j .if2 .t) _
+          (all-terms i n (l .loop .m) _ _ _ _ (j .if2 .t) (omega (arith, h .1)) (l .loop .inv .1) a v
+          (⊎-elim
+          (λ u. inl (u .1 .result, u .0 .taken, u .1 .ensures ∙ last-term i _ _ _ _ _ _ _ _ _ _ G W n (h .0) (h .1) _ (u .0 .taken) e, u .4 ∙ u .3 .ensures))
+          (λ u. inr (u .0 .left, u .1))
+          (j .if2 .came)))
+          (c .add-terms .ensures i),
+      lanes-end i n (l .loop .m) _ _ _ (l .loop .inv .0) a (v .lanes),
+    )
 
 pub degree-spec : {M : Type 1} → statement M
 degree-spec =
@@ -77,18 +87,14 @@ degree-spec =
     (tie.spec
     Inv-loop
     μ-loop
-    Inv-loop2
-    μ-loop2
     loop-holds
-    add-loop
     four-orders-requires
     add-m
     loop-less
     loop-again
+    sub-term
+    term-requires
+    put-term-requires
+    add-add-terms
     add-terms-requires
-    loop2-holds
-    one-order-requires
-    add-m-2
-    loop2-less
-    loop2-again
     returns)

@@ -2,6 +2,9 @@
 use borrow.Author.Tests.{eq-eqb, ne-eqb, eqb-false, lt-ltb}
 use native.Mathlib.Omega.{arith}
 use mathlib.Core.Logic.{⊎-elim}
+use mathlib.Core.Path.{sym, ap, _∙_}
+use Rattle.synthesis.specs.Code.{pdp}
+use Rattle.synthesis.proofs.LaneLaws.{lower-branch}
 use Rattle.synthesis.specs.Arithmetic.{rounded}
 use Rattle.synthesis.specs.Recurrence.{step}
 use borrow.Author.Needs.{needs}
@@ -86,7 +89,8 @@ returns-3 c =
 returns-4 : tie.Need-returns-4
 returns-4 c =
     let b = c .before in
-    c .lower-p-dp .ensures (b .before .before .before .args .n) (omega (arith, sub-if4 (b .before), b .if4 .left))
+    let o = b .before .before .before .args in
+    c .lower-p-dp .ensures ∙ ap pdp (sym (lower-branch _ _ _ (o .n) (o .m) _ _ _ (omega (arith, sub-if4 (b .before), b .if4 .left))))
 
 pub gauss-norm-p-dp-spec : {M : Type 1} → statement M
 gauss-norm-p-dp-spec =

@@ -1,9 +1,6 @@
--- `synthesis::rows::lower_p_dp` meets its contract: the tests of the definition all fail at such an order. Assumes nothing.
-use borrow.Author.Tests.{ne-eqb, le-ltb}
-use Prim.Native.Nat.{_-_}
-use native.Mathlib.Omega.{arith}
+-- `synthesis::rows::lower_p_dp` meets its contract. Assumes nothing.
+use mathlib.Core.Path.{refl}
 use Rattle.synthesis.specs.Arithmetic.{rounded}
-use Rattle.synthesis.specs.Recurrence.{step}
 use borrow.Author.Needs.{needs}
 use Rattle.synthesis.proofs.rows.lower_p_dp.Statement.{statement}
 use Rattle.synthesis.proofs.rows.lower_p_dp.Tie as tie
@@ -57,10 +54,8 @@ index-2-b2 : tie.Need-index-2-b2
 index-2-b2 c = search needs
 
 returns : tie.Need-returns
-unfolding step rounded
-returns c = λ n h.
-    let m = c .before .before .before .before .args .m in
-    simp (ne-eqb n m (λ e. omega arith), ne-eqb n 1 (λ e. omega arith), le-ltb (n - 2) m (omega arith))
+unfolding rounded
+returns c = refl
 
 pub lower-p-dp-spec : {M : Type 1} → statement M
 lower-p-dp-spec =

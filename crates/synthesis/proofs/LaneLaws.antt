@@ -1,0 +1,244 @@
+-- The lanes hold P. But for a zero's sign lane m is P(n, m) in the degrees from m on, and P(m, m) before. So the sums are those of the recurrences.
+use mathlib.Core.Path.{_≡_, refl, sym, ap, _∙_}
+use Prim.Native.Nat.{ℕ, zero, suc, _+_, _*_, _-_, _/_, _<_, _≤_}
+use native.Mathlib.Nat.{not-suc-le-zero}
+use native.Mathlib.Numerals.{add-one}
+use native.Mathlib.Omega.{arith}
+use mathlib.Core.Bool.{Bool, true, false, cond}
+use mathlib.Core.Logic.{⊎-elim}
+use borrow.Author.Tests.{eq-eqb, ne-eqb, lt-ltb, le-ltb}
+use lib.Dec.{T, ltb}
+use lib.Ieee.{Float, binary32, fits, neg, ofInt, round}
+use lib.Ieee.Fits.{add-fits, mul-fits, neg-fits, sub-fits}
+use lib.Ieee.Scale.{finite}
+use Rattle.tables.specs.Degree.{N-MAX}
+use Rattle.synthesis.specs.Arithmetic.{Pair, pair, rounded}
+use Rattle.synthesis.specs.Recurrence.{Input, dpsn, gc-hs, gs-hc, legendre, lit, psn, step, x-row, x-term, y-row, y-term, z-row, z-term}
+use Rattle.synthesis.specs.Code.{lane, laneStep, laneSums, laneTerms, lowered, rowSums, start, startAt, termOf}
+use Rattle.synthesis.specs.Same.{Same, same, zeros, mul-same, sub-same}
+use Rattle.synthesis.proofs.Kept.{Null, less-null, mul-null, null-less, null-mul, one-times, times-one}
+use Rattle.synthesis.proofs.RowsHold.{legendre-next, same-or}
+use Rattle.synthesis.proofs.Seen.{total-unseen}
+
+-- what the law asks of what is read: numbers of the format, finite, and K(n, n - 1) a zero
+pub record Plain (i : Input) : Type 0 where
+  pub cos-held : T (fits binary32 (i .cos-theta))
+  pub sin-held : T (fits binary32 (i .sin-theta))
+  pub cos-finite : T (finite (i .cos-theta))
+  pub K-held : (n m : ℕ) → T (fits binary32 (i .K n m))
+  pub K-finite : (n m : ℕ) → T (finite (i .K n m))
+  pub K-last : (n : ℕ) → 0 < n → n ≤ N-MAX → Null (i .K n (n - 1))
+  pub P-finite : (n m : ℕ) → n ≤ N-MAX → T (finite (legendre rounded i n m .fst)) × T (finite (legendre rounded i n m .snd))
+
+same-trans : {x y z : Float} → Same x y → Same y z → Same x z
+same-trans same q = q
+same-trans (zeros s t) same = zeros s t
+same-trans (zeros s t) (zeros u v) = zeros s v
+
+-- both numbers of a pair
+abbrev SameP : Pair Float → Pair Float → Type 0
+SameP a b = Same (a .fst) (b .fst) × Same (a .snd) (b .snd)
+
+by-path : {a b c : Pair Float} → SameP a b → b ≡ c → SameP a c
+by-path p e = rw e at p
+
+lowered-same : (c s k : Float) {q q' r r' : Pair Float} → SameP q q' → SameP r r' → SameP (lowered c s k q r) (lowered c s k q' r')
+unfolding rounded
+lowered-same c s k p o = (
+  sub-same (mul-same same (p .0)) (mul-same same (o .0)),
+  sub-same (sub-same (mul-same same (p .1)) (mul-same same (p .0))) (mul-same same (o .1)),
+)
+
+-- ---- one more degree, from the two before
+pub lane-next : (i : Input) (n m : ℕ) → 0 < n → lane i n m ≡ cond (ltb n (4 * (m / 4))) (start i m) (laneStep i n m (lane i (n - 1) m) (lane i (n - 2) m))
+unfolding lane
+lane-next i zero m z = absurd (not-suc-le-zero z)
+lane-next i (suc zero) m z = refl
+lane-next i (suc (suc n)) m z =
+    let u : suc (suc n) - 1 ≡ suc n = omega arith in
+    let v : suc (suc n) - 2 ≡ n = omega arith in
+    rw (u, v) refl
+
+-- before its four lanes are taken
+pub lane-idle : (i : Input) (n m : ℕ) → n < 4 * (m / 4) → lane i n m ≡ start i m
+lane-idle i zero m l = unfold lane in refl
+lane-idle i (suc n) m l = lane-next i (suc n) m (omega arith) ∙ rw (lt-ltb (suc n) (4 * (m / 4)) l) refl
+
+-- ---- the branches of the row step
+module _ (c s k : Float) (n m : ℕ) (q' q r : Pair Float) where
+  last-branch : n ≡ m → step rounded c s k n m q' q r ≡ pair (rounded .times s (q' .fst)) (rounded .plus (rounded .times s (q' .snd)) (rounded .times c (q' .fst)))
+  unfolding step
+  last-branch e = simp (eq-eqb n m e)
+
+  next-branch : (n ≡ 1 → ⊥) → m + 1 ≡ n → step rounded c s k n m q' q r ≡ pair (rounded .times c (q .fst)) (rounded .less (rounded .times c (q .snd)) (rounded .times s (q .fst)))
+  unfolding step
+  next-branch o e = simp (ne-eqb n m (λ h. omega arith), ne-eqb n 1 o, lt-ltb (n - 2) m (omega arith))
+
+  pub lower-branch : m + 2 ≤ n → step rounded c s k n m q' q r ≡ lowered c s k q r
+  unfolding step
+  lower-branch h = simp (ne-eqb n m (λ e. omega arith), ne-eqb n 1 (λ e. omega arith), le-ltb (n - 2) m (omega arith))
+
+first-branch : (c s k : Float) (q' q r : Pair Float) → step rounded c s k 1 0 q' q r ≡ pair c (rounded .opp s)
+unfolding step
+first-branch c s k q' q r = refl
+
+-- ---- the start values
+zero-null : Null (lit 0)
+unfolding lit ofInt round
+zero-null = (false, refl)
+
+module _ (i : Input) (w : Plain i) where
+  start-is : (m : ℕ) → start i m ≡ legendre rounded i m m
+  unfolding startAt
+  start-is zero = unfold startAt legendre rounded in refl
+  start-is (suc m) =
+      let e : suc m - 1 ≡ m = omega arith in
+      let a = start i m in
+      sym (last-branch (i .cos-theta) (i .sin-theta) (i .K (suc m) (suc m)) (suc m) (suc m) a a a refl)
+      ∙ legendre-next i (suc m) (suc m) (omega arith) (omega arith) a a a (λ h. rw e (start-is m)) (λ h. absurd (omega arith)) (λ h. absurd (omega arith))
+
+  start-held : (m : ℕ) → T (fits binary32 (start i m .fst)) × T (fits binary32 (start i m .snd))
+  unfolding startAt rounded lit ofInt round fits
+  start-held zero = (tt, tt)
+  start-held (suc m) = (mul-fits binary32 (i .sin-theta) (start i m .fst), add-fits binary32 _ _)
+
+  start-finite : (m : ℕ) → m ≤ N-MAX → T (finite (start i m .fst)) × T (finite (start i m .snd))
+  start-finite m l = rw (start-is m) (w .P-finite m m l)
+
+  -- ---- a lane before its degree
+  kept : (n m : ℕ) → n ≤ m → m ≤ N-MAX → {q r : Pair Float} → SameP q (start i m) → SameP r (start i m) → SameP (laneStep i n m q r) (start i m)
+  unfolding laneStep rounded
+  kept n m l M {q} {r} p o =
+      let a = start i m in
+      let h = start-held m in
+      let f = start-finite m M in
+      let z : Null (rounded .times (i .K n m) (lit 0)) = mul-null (i .K n m) (lit 0) (w .K-finite n m) zero-null in
+      let k = rounded .times (i .K n m) (lit 0) in
+      let v = lowered-same (lit 1) (lit 0) k p o in
+      rw (le-ltb m n l) (
+        same-trans (v .0) (rw (one-times (a .fst) (h .0)) (less-null (a .fst) _ (h .0) (null-mul k (a .fst) z (f .0)))),
+        same-trans (v .1) (rw (one-times (a .snd) (h .1)) (same-trans (sub-same (less-null (a .snd) _ (h .1) (null-mul (lit 0) (a .fst) zero-null (f .0))) same) (less-null (a .snd) _ (h .1) (null-mul k (a .snd) z (f .1))))),
+      )
+
+  either : (b : Bool) {x y z : Pair Float} → SameP x z → SameP y z → SameP (cond b x y) z
+  either true p q = p
+  either false p q = q
+
+  above : (n m : ℕ) → n ≤ m → m ≤ N-MAX → SameP (lane i n m) (start i m)
+  unfolding lane
+  above zero m l M = (same, same)
+  above (suc zero) m l M = either (ltb 1 (4 * (m / 4))) (same, same) (kept 1 m l M (same, same) (same, same))
+  above (suc (suc n)) m l M = either (ltb (suc (suc n)) (4 * (m / 4))) (same, same) (kept (suc (suc n)) m l M (above (suc n) m (omega arith) M) (above n m (omega arith) M))
+
+  -- ---- a lane from its degree on
+  -- below the degree the step is the row step's last branch
+  stepped-below : (n m : ℕ) → m < n → (q r : Pair Float) → laneStep i n m q r ≡ lowered (i .cos-theta) (i .sin-theta) (i .K n m) q r
+  unfolding laneStep rounded
+  stepped-below n m l q r = rw (lt-ltb m n l, times-one (i .K n m) (w .K-held n m)) refl
+
+  -- degree 1, order 0
+  first-near : SameP (lowered (i .cos-theta) (i .sin-theta) (i .K 1 0) (start i 0) (start i 0)) (pair (i .cos-theta) (rounded .opp (i .sin-theta)))
+  unfolding startAt rounded
+  first-near =
+      let c = i .cos-theta in
+      let s = i .sin-theta in
+      let k = i .K 1 0 in
+      let z : Null k = w .K-last 1 (omega arith) (omega arith) in
+      let f = start-finite 0 (omega arith) in (
+        rw (times-one c (w .cos-held)) (less-null c _ (w .cos-held) (null-mul k (lit 1) z (f .0))),
+        rw (times-one s (w .sin-held))
+            (same-trans (sub-same (null-less _ s (mul-null c (lit 0) (w .cos-finite) zero-null) (w .sin-held)) same)
+            (less-null (neg s) _ (neg-fits binary32 s (w .sin-held)) (null-mul k (lit 0) z (f .1)))),
+      )
+
+  first : SameP (lowered (i .cos-theta) (i .sin-theta) (i .K 1 0) (start i 0) (start i 0)) (legendre rounded i 1 0)
+  first =
+      let a = start i 0 in
+      by-path first-near (sym (first-branch (i .cos-theta) (i .sin-theta) (i .K 1 0) a a a) ∙ legendre-next i 1 0 (omega arith) (omega arith) a a a (λ h. absurd (not-suc-le-zero h)) (λ h. start-is 0) (λ h. absurd (not-suc-le-zero h)))
+
+  -- order n - 1, from degree 2 on
+  module _ (n m : ℕ) (l : 1 < n) (M : n ≤ N-MAX) (e : m + 1 ≡ n) where
+    abbrev over : Pair Float
+    over = legendre rounded i (n - 1) m
+
+    next-near : SameP (lowered (i .cos-theta) (i .sin-theta) (i .K n m) over (start i m)) (pair (rounded .times (i .cos-theta) (over .fst)) (rounded .less (rounded .times (i .cos-theta) (over .snd)) (rounded .times (i .sin-theta) (over .fst))))
+    unfolding rounded
+    next-near =
+        let k = i .K n m in
+        let v : n - 1 ≡ m = omega arith in
+        let z : Null k = rw v at (w .K-last n (omega arith) M) in
+        let f = start-finite m (omega arith) in
+        (less-null _ _ (mul-fits binary32 (i .cos-theta) (over .fst)) (null-mul k (start i m .fst) z (f .0)), less-null _ _ (sub-fits binary32 _ _) (null-mul k (start i m .snd) z (f .1)))
+
+    next : SameP (lowered (i .cos-theta) (i .sin-theta) (i .K n m) over (start i m)) (legendre rounded i n m)
+    next =
+        let q' = legendre rounded i (n - 1) (m - 1) in
+        by-path next-near (sym (next-branch (i .cos-theta) (i .sin-theta) (i .K n m) n m q' over over (λ h. omega arith) e) ∙ legendre-next i n m (omega arith) (omega arith) q' over over (λ h. refl) (λ h. refl) (λ h. absurd (omega arith)))
+
+  lower : (n m : ℕ) → m + 2 ≤ n → lowered (i .cos-theta) (i .sin-theta) (i .K n m) (legendre rounded i (n - 1) m) (legendre rounded i (n - 2) m) ≡ legendre rounded i n m
+  lower n m l =
+      let q' = legendre rounded i (n - 1) (m - 1) in
+      sym (lower-branch (i .cos-theta) (i .sin-theta) (i .K n m) n m q' _ _ l) ∙ legendre-next i n m (omega arith) (omega arith) q' _ _ (λ h. refl) (λ h. refl) (λ h. refl)
+
+  taken : (n m : ℕ) → 0 < n → m < n → lane i n m ≡ lowered (i .cos-theta) (i .sin-theta) (i .K n m) (lane i (n - 1) m) (lane i (n - 2) m)
+  taken n m z l = lane-next i n m z ∙ rw (le-ltb n (4 * (m / 4)) (omega arith)) (stepped-below n m l (lane i (n - 1) m) (lane i (n - 2) m))
+
+  at-last : (n m : ℕ) → n ≤ N-MAX → m ≡ n → SameP (lane i n m) (legendre rounded i n m)
+  at-last n m M e = rw e (by-path (above n n (omega arith) M) (start-is n))
+
+  below-one : SameP (lane i 1 0) (legendre rounded i 1 0)
+  below-one = rw (taken 1 0 (omega arith) (omega arith)) (unfold lane in first)
+
+  both : (n m : ℕ) → n ≤ N-MAX → m + 2 ≤ n → SameP (lane i (n - 1) m) (legendre rounded i (n - 1) m) → SameP (lane i (n - 2) m) (legendre rounded i (n - 2) m) → SameP (lane i n m) (legendre rounded i n m)
+  both n m M l p o = rw (taken n m (omega arith) (omega arith)) (by-path (lowered-same (i .cos-theta) (i .sin-theta) (i .K n m) p o) (lower n m l))
+
+  beside : (n m : ℕ) → 1 < n → n ≤ N-MAX → m + 1 ≡ n → SameP (lane i (n - 1) m) (legendre rounded i (n - 1) m) → SameP (lane i n m) (legendre rounded i n m)
+  beside n m z M e p =
+      let v = lowered-same (i .cos-theta) (i .sin-theta) (i .K n m) p (above (n - 2) m (omega arith) (omega arith)) in
+      let x = next n m z M e in
+      rw (taken n m (omega arith) (omega arith)) (same-trans (v .0) (x .0), same-trans (v .1) (x .1))
+
+  below : (n m : ℕ) → n ≤ N-MAX → m ≤ n → SameP (lane i n m) (legendre rounded i n m)
+  below zero m M l = at-last zero m M (omega arith)
+  below (suc zero) m M l = ⊎-elim (at-last 1 m M) (λ h. (let e : m ≡ 0 = omega arith in rw e below-one)) (same-or m 1)
+  below (suc (suc n)) m M l =
+      let u : suc (suc n) - 1 ≡ suc n = omega arith in
+      let v : suc (suc n) - 2 ≡ n = omega arith in
+      ⊎-elim
+      (at-last (suc (suc n)) m M)
+      (λ h. ⊎-elim
+      (λ (e : m ≡ suc n). beside (suc (suc n)) m (omega arith) M (omega arith) (rw u (below (suc n) m (omega arith) (omega arith))))
+      (λ g. both (suc (suc n)) m M (omega arith) (rw u (below (suc n) m (omega arith) (omega arith))) (rw v (below n m (omega arith) (omega arith))))
+      (same-or m (suc n)))
+      (same-or m (suc (suc n)))
+
+  -- ---- the terms and the sums
+  module _ (n : ℕ) (M : n ≤ N-MAX) where
+    held-lane : (m : ℕ) → m ≤ n → SameP (cond (ltb m N-MAX) (lane i n m) (start i m)) (legendre rounded i n m)
+    held-lane m l =
+        ⊎-elim
+        (λ (e : m ≡ N-MAX). (let g : m ≡ n = omega arith in rw (le-ltb m N-MAX (omega arith)) (by-path (same, same) (start-is m ∙ ap (λ (z : ℕ). legendre rounded i z m) g))))
+        (λ h. rw (lt-ltb m N-MAX (omega arith)) (below n m M l))
+        (same-or m N-MAX)
+
+    x-same : (m : ℕ) → m ≤ n → Same (laneTerms i n m .x) (x-term rounded i n m)
+    unfolding termOf gc-hs dpsn rounded
+    x-same m l = mul-same same (mul-same same (held-lane m l .1))
+
+    y-same : (m : ℕ) → m ≤ n → Same (laneTerms i n m .y) (y-term rounded i n m)
+    unfolding termOf gs-hc psn rounded
+    y-same m l = mul-same same (mul-same same (held-lane m l .0))
+
+    z-same : (m : ℕ) → m ≤ n → Same (laneTerms i n m .z) (z-term rounded i n m)
+    unfolding termOf gc-hs psn rounded
+    z-same m l = mul-same same (mul-same same (held-lane m l .0))
+
+    pub lane-sums : laneSums i n ≡ rowSums i n
+    unfolding x-row y-row z-row rounded
+    lane-sums =
+        rw (
+          add-one,
+          total-unseen i (λ m. laneTerms i n m .x) (x-term rounded i n) (suc n) (λ m l. x-same m (omega arith)) (λ m. mul-fits binary32 _ _),
+          total-unseen i (λ m. laneTerms i n m .y) (y-term rounded i n) (suc n) (λ m l. y-same m (omega arith)) (λ m. mul-fits binary32 _ _),
+          total-unseen i (λ m. laneTerms i n m .z) (z-term rounded i n) (suc n) (λ m l. z-same m (omega arith)) (λ m. mul-fits binary32 _ _),
+        ) refl
