@@ -40,7 +40,7 @@ static const struct set SETS[2] = {
 
 /* What is printed. */
 struct shown {
-    float xyz[3], errors[8], h, f, d, d_uncertainty, variation;
+    float xyz[3], errors[8], allowances[3], h, f, d, d_uncertainty, variation;
     uint32_t zone, given;
     int32_t epoch_year;
 };
@@ -78,6 +78,10 @@ static uint32_t field_at(float lat, float lon, float height, int32_t year, int32
         height, sinf(phi), cosf(phi), sinf(lambda), cosf(lambda), year, day, s->epoch_year, set->g, n,
         set->h, n, set->g_dot, n, set->h_dot, n, s->xyz, s->errors, entry, years);
     if (refusal == NJERUMOY_HEIGHT) return refusal;
+    /* Its refusals are Field's. */
+    njerumoy_allowance(height, sinf(phi), cosf(phi), sinf(lambda), cosf(lambda), year, day,
+                       s->epoch_year, set->g, n, set->h, n, set->g_dot, n, set->h_dot, n,
+                       s->allowances, entry, years);
     /* A pair comes round again after a full turn, so the degrees are asked for too. */
     const uint32_t of_degrees = njerumoy_grid_variation(lat, lon, 0.0f, &s->given, &s->variation);
     return of_degrees != 0 ? of_degrees : refusal;
@@ -96,6 +100,9 @@ static uint32_t strengths(float lat, float lon, struct shown *s) {
     return refusal;
 }
 
+/* Two digits after the point, upward: what is printed is still a bound. */
+static double upward(float bound) { return ceil((double)bound * 100.0) / 100.0; }
+
 static void print(const struct shown *s) {
     const char *const zones[] = {"none", "blackout", "caution"};
     printf("X  %9.1f nT  +- %.0f\n", (double)s->xyz[0], (double)s->errors[NJERUMOY_ERROR_X]);
@@ -107,6 +114,8 @@ static void print(const struct shown *s) {
     printf("zone   %s\n", zones[s->zone]);
     if (s->given) printf("grid   %.2f deg\n", (double)s->variation);
     printf("epoch  %d\n", (int)s->epoch_year);
+    printf("sums   X, Y, Z within %.2f, %.2f, %.2f nT of the exact sums\n", upward(s->allowances[0]),
+           upward(s->allowances[1]), upward(s->allowances[2]));
 }
 
 int main(int count, char **words) {

@@ -101,6 +101,27 @@ enum {
     NJERUMOY_ERROR_Z = 7
 };
 
+/* Allowance: how far X, Y and Z of njerumoy_field can lie from the exact field of the same question.
+ *
+ * height .. h_dot   as in njerumoy_field
+ * allowances    for X, Y and Z in this order: a finite number above zero, in nanotesla
+ * entry, years  as in njerumoy_field
+ *
+ * The exact field is the model's sum and the turn to the geodetic axes, with nothing rounded, from
+ * the set as it stands and from the colatitude, the radius ratio and the offset that Field works out
+ * in float. Each number is at least the distance between the shown strength and the exact one. It is
+ * also at least the proved bound of that distance, M / 131072 + 2^-20, and at most 1.01 times that
+ * bound; M is the same sum with every number taken by its size and every minus read as plus. This is
+ * the arithmetic's part alone. The model's own error stands in `errors` of njerumoy_field.
+ *
+ * Refusals: those of njerumoy_field, in the same order. It answers where njerumoy_field answers. */
+uint32_t njerumoy_allowance(float height, float sin_phi, float cos_phi, float sin_lambda,
+                            float cos_lambda, int32_t year, int32_t day_of_year,
+                            int32_t epoch_year, const float *g, size_t g_length, const float *h,
+                            size_t h_length, const float *g_dot, size_t g_dot_length,
+                            const float *h_dot, size_t h_dot_length, float allowances[3],
+                            size_t entry[2], int32_t years[2]);
+
 /* Sum: the sums over degree and order, at a geocentric place.
  *
  * cos_theta, sin_theta    of the geocentric colatitude

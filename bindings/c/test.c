@@ -31,7 +31,7 @@ struct field {
     int32_t year, day, epoch;
     float lists[4][N];
     size_t lengths[4];
-    float xyz[3], errors[8];
+    float xyz[3], errors[8], allowances[3];
     size_t entry[2];
     int32_t years[2];
 };
@@ -53,7 +53,7 @@ static struct field question(void) {
     memcpy(q.lists[2], njerumoy_wmm2025_g_dot, sizeof q.lists[2]);
     memcpy(q.lists[3], njerumoy_wmm2025_h_dot, sizeof q.lists[3]);
     for (int i = 0; i < 4; i++) q.lengths[i] = N;
-    for (int i = 0; i < 3; i++) q.xyz[i] = HELD;
+    for (int i = 0; i < 3; i++) q.xyz[i] = q.allowances[i] = HELD;
     for (int i = 0; i < 8; i++) q.errors[i] = HELD;
     for (int i = 0; i < 2; i++) q.entry[i] = HELD_SIZE;
     for (int i = 0; i < 2; i++) q.years[i] = HELD_YEAR;
@@ -67,13 +67,20 @@ static uint32_t ask(struct field *q) {
                           q->entry, q->years);
 }
 
+static uint32_t ask_allowance(struct field *q) {
+    return njerumoy_allowance(q->height, q->sin_phi, q->cos_phi, q->sin_lambda, q->cos_lambda,
+                              q->year, q->day, q->epoch, q->lists[0], q->lengths[0], q->lists[1],
+                              q->lengths[1], q->lists[2], q->lengths[2], q->lists[3], q->lengths[3],
+                              q->allowances, q->entry, q->years);
+}
+
 static int near(float x, double printed, double digit) {
     return fabs((double)x - printed) <= digit / 2;
 }
 
 static int kept_results(const struct field *q) {
     int kept = 1;
-    for (int i = 0; i < 3; i++) kept = kept && q->xyz[i] == HELD;
+    for (int i = 0; i < 3; i++) kept = kept && q->xyz[i] == HELD && q->allowances[i] == HELD;
     for (int i = 0; i < 8; i++) kept = kept && q->errors[i] == HELD;
     return kept;
 }
@@ -86,10 +93,17 @@ static int kept_years(const struct field *q) {
     return q->years[0] == HELD_YEAR && q->years[1] == HELD_YEAR;
 }
 
-/* Nothing is written but what the refusal carries. */
+static int kept_all(const struct field *q, uint32_t number) {
+    return kept_results(q) && (number == 7 || kept_entry(q)) && (number == 8 || kept_years(q));
+}
+
+/* Nothing is written but what the refusal carries. Field and Allowance refuse alike. */
 static int refused(struct field *q, uint32_t number) {
-    return ask(q) == number && kept_results(q) && (number == 7 || kept_entry(q)) &&
-           (number == 8 || kept_years(q));
+    struct field b = *q;
+    int alike = ask_allowance(&b) == number && kept_all(&b, number);
+    return ask(q) == number && kept_all(q, number) && alike &&
+           memcmp(q->entry, b.entry, sizeof b.entry) == 0 &&
+           memcmp(q->years, b.years, sizeof b.years) == 0;
 }
 
 static void test_field(void) {
@@ -101,6 +115,20 @@ static void test_field(void) {
     CHECK(q.errors[NJERUMOY_ERROR_H] == 133.0f && q.errors[NJERUMOY_ERROR_X] == 137.0f);
     CHECK(q.errors[NJERUMOY_ERROR_Y] == 89.0f && q.errors[NJERUMOY_ERROR_Z] == 141.0f);
     CHECK(kept_entry(&q) && kept_years(&q));
+}
+
+static void test_allowance(void) {
+    struct field q = question();
+    CHECK(ask_allowance(&q) == 0);
+    for (int i = 0; i < 3; i++) CHECK(q.allowances[i] > 0.0f && q.allowances[i] < 6.0f);
+    CHECK(q.xyz[0] == HELD && q.errors[0] == HELD && kept_entry(&q) && kept_years(&q));
+    /* no set at all: the bound is 2^-20, and at most 1.01 times that is shown */
+    memset(q.lists, 0, sizeof q.lists);
+    CHECK(ask(&q) == 0 && ask_allowance(&q) == 0);
+    for (int i = 0; i < 3; i++) {
+        CHECK(q.xyz[i] == 0.0f);
+        CHECK(q.allowances[i] * 1048576.0 >= 1.0 && q.allowances[i] * 1048576.0 <= 1.01);
+    }
 }
 
 /* From the last refusal to the first: each hides those after it. */
@@ -229,6 +257,7 @@ static void test_root(void) {
 int main(void) {
     test_field();
     test_field_refusals();
+    test_allowance();
     test_sum();
     test_epoch();
     test_strengths();

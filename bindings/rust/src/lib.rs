@@ -64,6 +64,14 @@ pub struct Field {
     pub errors: Errors,
 }
 
+/// How far X, Y and Z of `field` can lie from the exact field of the same question [nT].
+#[derive(Copy, Clone, Debug, PartialEq)]
+pub struct Allowances {
+    pub x: f32,
+    pub y: f32,
+    pub z: f32,
+}
+
 /// X', Y and Z' of `sum` [nT]: X' south, Y east, Z' up, along the geocentric axes.
 #[derive(Copy, Clone, Debug, PartialEq)]
 pub struct Sums {
@@ -151,6 +159,53 @@ pub fn field(
             y: errors[6],
             z: errors[7],
         },
+    })
+}
+
+/// How far X, Y and Z of `field` can lie from the exact field, for the same question: each number is
+/// at least the proved bound of the distance, and at most 1.01 times as much. The model's own error is
+/// not in it. Refusals as those of `field`.
+#[inline]
+pub fn allowance(
+    height: f32,
+    latitude: Pair,
+    longitude: Pair,
+    day: Day,
+    set: &Set,
+) -> Result<Allowances, Refusal> {
+    let mut xyz = [0.0; 3];
+    let (mut entry, mut years) = ([0; 2], [0; 2]);
+    // SAFETY: each pointer and length are those of one slice, and the places are three locals.
+    let number = unsafe {
+        sys::njerumoy_allowance(
+            height,
+            latitude.sin,
+            latitude.cos,
+            longitude.sin,
+            longitude.cos,
+            day.year,
+            day.day_of_year,
+            set.epoch_year,
+            set.g.as_ptr(),
+            set.g.len(),
+            set.h.as_ptr(),
+            set.h.len(),
+            set.g_dot.as_ptr(),
+            set.g_dot.len(),
+            set.h_dot.as_ptr(),
+            set.h_dot.len(),
+            &mut xyz,
+            &mut entry,
+            &mut years,
+        )
+    };
+    if number != 0 {
+        return Err(Refusal::of(number, entry, years));
+    }
+    Ok(Allowances {
+        x: xyz[0],
+        y: xyz[1],
+        z: xyz[2],
     })
 }
 

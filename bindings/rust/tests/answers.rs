@@ -1,7 +1,7 @@
 //! The wrapper's answers, its refusals with what they carry, and their words. tools/test-library runs
 //! it.
 use njerumoy::{
-    epoch, field, grid_variation, published, square_root, sum, Day, Errors, Field, List, Pair,
+    allowance, epoch, field, grid_variation, published, square_root, sum, Day, Errors, Field, List, Pair,
     Refusal, Set, Zone,
 };
 
@@ -55,9 +55,33 @@ fn the_published_row() {
 }
 
 #[test]
+fn allowances() {
+    let ask = |set: &Set| allowance(0.0, pair(80.0), pair(0.0), FIRST_OF_2025, set).unwrap();
+    let v = ask(&published::WMM2025);
+    for shown in [v.x, v.y, v.z] {
+        assert!(shown > 0.0 && shown < 6.0);
+    }
+    let none = [0.0f32; 90];
+    let v = ask(&Set {
+        epoch_year: 2025,
+        g: &none,
+        h: &none,
+        g_dot: &none,
+        h_dot: &none,
+    });
+    for shown in [v.x, v.y, v.z] {
+        let parts = f64::from(shown) * 1048576.0;
+        assert!((1.0..=1.01).contains(&parts));
+    }
+}
+
+#[test]
 fn refusals_of_field_in_their_order() {
     let ask = |height: f32, latitude: Pair, longitude: Pair, on: Day, set: &Set| {
-        field(height, latitude, longitude, on, set).unwrap_err()
+        let refusal = field(height, latitude, longitude, on, set).unwrap_err();
+        let other = allowance(height, latitude, longitude, on, set).unwrap_err();
+        assert_eq!(refusal, other);
+        refusal
     };
     let good = published::WMM2025;
     let (phi, lambda) = (pair(80.0), pair(0.0));

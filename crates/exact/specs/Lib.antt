@@ -7,6 +7,7 @@ pub mod Round
 pub mod Ops
 pub mod Near
 pub mod Reach
+pub mod Relative
 pub mod Ranks
 pub mod Sizes
 pub mod Circle

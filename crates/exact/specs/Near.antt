@@ -256,7 +256,7 @@ is-own (inf s) t = t
 is-own (fin false m e) t = omega arith
 is-own (fin true m e) t = omega arith
 
-own-pos : (f : Float) → 0 < own f .over
+pub own-pos : (f : Float) → 0 < own f .over
 unfolding own
 own-pos nan = lit< tt
 own-pos (inf s) = lit< tt

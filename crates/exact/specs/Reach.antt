@@ -15,7 +15,7 @@ use Rattle.exact.specs.Ops.{Rep, Is, size-of}
 use Rattle.exact.specs.Within.{Within}
 use Rattle.exact.specs.Near.{lo, hi, lo-pos, twice, rank-bound, Close, Near, Fine, bound, finite-is}
 
-is-cross : (f : Float) (p q d : ℕ) → Is f p q d → p * own f .over + own f .minus * d ≡ q * own f .over + own f .plus * d
+pub is-cross : (f : Float) (p q d : ℕ) → Is f p q d → p * own f .over + own f .minus * d ≡ q * own f .over + own f .plus * d
 unfolding own
 is-cross nan p q d i = absurd i
 is-cross (inf s) p q d i = absurd i
@@ -23,7 +23,7 @@ is-cross (fin false m e) p q d i = omega arith
 is-cross (fin true m e) p q d i = omega arith
 
 -- without the rank
-flat-lower : (v w a c x d : ℕ) → 0 < v → w * 131072 ≤ 131073 * v → Lower v w a c x d → 131072 * (x * c) ≤ 131073 * (a * d)
+pub flat-lower : (v w a c x d : ℕ) → 0 < v → w * 131072 ≤ 131073 * v → Lower v w a c x d → 131072 * (x * c) ≤ 131073 * (a * d)
 flat-lower v w a c x d vp h l = le-of-mul-le-mul-right (le-trans (by-le (mul-le-mul-left 131072 l) (p v a c x d) (q w a d)) (by-le (mul-le-mul-right (a * d) h) refl (r v a d))) vp
   where
     p : (v a c x d : ℕ) → 131072 * (x * c) * v ≡ 131072 * (x * c * v)

@@ -13,6 +13,7 @@ use Rattle.synthesis.specs.declared.Xyz.{Xyz}
 use Rattle.field.specs.declared.strengths.GeomagneticField.{GeomagneticField}
 use Rattle.field.specs.Strengths.{Warning, blackout, caution, no-zone}
 use Rattle.field.specs.Grid.{Variation, degrees, absent}
+use Rattle.allowance.specs.declared.Allowances.{Allowances}
 
 -- ---- of any answer
 -- the number that is returned: 0 for an answer, and a refusal's own
@@ -43,6 +44,10 @@ sumFloats v = v .x ∷ v .y ∷ v .z ∷ []
 -- X, Y and Z, in this order
 abbrev pub fieldFloats : GeomagneticField → List Float
 fieldFloats v = v .x ∷ v .y ∷ v .z ∷ []
+
+-- the allowances of X, Y and Z, in this order
+abbrev pub allowanceFloats : Allowances → List Float
+allowanceFloats v = v .x ∷ v .y ∷ v .z ∷ []
 
 -- the error figures, in the record's order
 abbrev pub errorFloats : GeomagneticField → List Float

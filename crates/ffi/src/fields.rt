@@ -1,14 +1,16 @@
-// Field.
+// Field and Allowance.
 use crate::refuse::note_entry;
 use crate::refuse::note_years;
 use crate::refuse::number;
+use allowance::AllowanceAnswer;
 use field::FieldAnswer;
 use field::Latitude;
 use refusals::Day;
 use synthesis::Longitude;
 ghost use mathlib.Core.Path.{_≡_};
 ghost use Rattle.field.specs.Field.{asked, fieldSays};
-ghost use Rattle.ffi.specs.Told.{numberOf, result, entryPlace, yearsPlace, fieldFloats, errorFloats};
+ghost use Rattle.allowance.specs.Allowance.{allowanceSays};
+ghost use Rattle.ffi.specs.Told.{numberOf, result, entryPlace, yearsPlace, fieldFloats, errorFloats, allowanceFloats};
 
 #[no_mangle]
 pub extern "C" fn njerumoy_field(
@@ -70,6 +72,61 @@ pub extern "C" fn njerumoy_field(
             0
         }
         FieldAnswer::Refused(k) => {
+            note_entry(k, entry);
+            note_years(k, years);
+            number(k)
+        }
+    }
+}
+
+#[no_mangle]
+pub extern "C" fn njerumoy_allowance(
+    height: f32,
+    sin_phi: f32,
+    cos_phi: f32,
+    sin_lambda: f32,
+    cos_lambda: f32,
+    year: i32,
+    day_of_year: i32,
+    epoch_year: i32,
+    g: &[f32],
+    h: &[f32],
+    g_dot: &[f32],
+    h_dot: &[f32],
+    allowances: &mut [f32; 3],
+    entry: &mut [usize; 2],
+    years: &mut [i32; 2],
+) -> u32
+    ensures { λ r. ⌜ (let p = allowanceSays (asked height «sin_phi» «cos_phi» «sin_lambda» «cos_lambda» «epoch_year» (now (g .entry)) (now (h .entry)) (now («g_dot» .entry)) (now («h_dot» .entry))) year «day_of_year» in
+        (r ≡ numberOf p) × (now (allowances .exit) ≡ result allowanceFloats (now (allowances .entry)) p)
+        × (now (entry .exit) ≡ entryPlace (now (entry .entry)) p) × (now (years .exit) ≡ yearsPlace (now (years .entry)) p)) ⌝ }
+    ensures kept { λ _. ⌜ (now (g .exit) ≡ now (g .entry)) × (now (h .exit) ≡ now (h .entry)) × (now («g_dot» .exit) ≡ now («g_dot» .entry)) × (now («h_dot» .exit) ≡ now («h_dot» .entry)) ⌝ }
+{
+    let latitude = Latitude {
+        sin: sin_phi,
+        cos: cos_phi,
+    };
+    let longitude = Longitude {
+        sin: sin_lambda,
+        cos: cos_lambda,
+    };
+    let day = Day { year, day_of_year };
+    match allowance::allowance(
+        height,
+        latitude,
+        longitude,
+        day,
+        epoch_year,
+        g,
+        h,
+        g_dot,
+        h_dot,
+    ) {
+        AllowanceAnswer::Allowance(v) => {
+            *allowances = [v.x, v.y, v.z];
+            0
+        }
+        AllowanceAnswer::Refused(k) => {
             note_entry(k, entry);
             note_years(k, years);
             number(k)

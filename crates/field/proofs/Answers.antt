@@ -141,7 +141,7 @@ module _ (a : Asked) (e : EpochOffset) where
         er ∙ ap (shownSays (a .set-epoch) (e .«epoch_year»)) es ∙ sym (lists-accept (a .g) (a .h) (a .g-dot) (a .h-dot) (shownSays (a .set-epoch) (e .«epoch_year») (strengthsOf a e)) (l .0)) ∙ after-set
 
 -- ---- Field
-after-paper : {A B : Type 0} (k : Refusal) (f : A → Paper B) → after (paper k) f ≡ paper k
+pub after-paper : {A B : Type 0} (k : Refusal) (f : A → Paper B) → after (paper k) f ≡ paper k
 after-paper (Height a b) f = refl
 after-paper Latitude f = refl
 after-paper Longitude f = refl
@@ -173,7 +173,7 @@ module _ (a : Asked) (year day : ℤ) (f : (q : Paper GeomagneticField) → q �
   day-answered e h r er = f r ∙ ap (placeSays (a .height) (a .sin-phi) (a .cos-phi) (a .sin-lambda) (a .cos-lambda)) (er ∙ ap (λ (q : Paper EpochOffset). after q (datedSays a)) h)
 
 -- ---- what an answer says
-after-answered : {A B : Type 0} (p : Paper A) (f : A → Paper B) (b : B) → after p f ≡ answered b → (x : A) × ((p ≡ answered x) × (f x ≡ answered b))
+pub after-answered : {A B : Type 0} (p : Paper A) (f : A → Paper B) (b : B) → after p f ≡ answered b → (x : A) × ((p ≡ answered x) × (f x ≡ answered b))
 after-answered (answered x) f b e = (x, (refl, e))
 after-answered (refused n y z) f b e = absurd (let q : _≡_ {A = ℕ} 0 1 = cc in omega arith)
 
@@ -207,6 +207,16 @@ found a year day v h =
     let p5 = passed (sameYear (a .set-epoch) (e .«epoch_year»)) (OtherEpoch (e .«epoch_year») (a .set-epoch)) _ v (l .1) in
     subst (λ (x : EpochOffset). Found a x v) (sym (epoch-is year day e (q .1 .0)))
     (record { accepted = accepted-by a year day (p1 .0) (p2 .0) (p3 .0) e (q .1 .0); lists = l .0; same = p5 .0; is = answered-one (recordOf (strengthsOf a e) (e .«epoch_year»)) v (p5 .1) })
+
+-- an answer is for a day that Epoch answers for
+pub day-found : (a : Asked) (year day : ℤ) (v : GeomagneticField) → fieldSays a year day ≡ answered v → epochSays year day ≡ answered (epochOffset year day)
+unfolding fieldSays placeSays
+day-found a year day v h =
+    let p1 = passed (heightOk (a .height)) (Height (neg (ofBits binary32 0x3f800000)) (ofBits binary32 0x44548000)) _ v h in
+    let p2 = passed (latitudeOk (a .sin-phi) (a .cos-phi)) Latitude _ v (p1 .1) in
+    let p3 = passed (circle (a .sin-lambda) (a .cos-lambda)) Longitude _ v (p2 .1) in
+    let q = after-answered (epochSays year day) (datedSays a) v (p3 .1) in
+    q .1 .0 ∙ ap answered (sym (epoch-is year day (q .0) (q .1 .0)))
 
 -- demand 3: an answer lies close to the exact field
 pub answer-close : (a : Asked) (year day : ℤ) (r : FieldAnswer) → said r ≡ fieldSays a year day → (v : GeomagneticField) → r ≡ Answer.Field v → Close a (epochOffset year day) v

@@ -2,9 +2,9 @@
 use mathlib.Core.Path.{_≡_, sym}
 use mathlib.Core.Bool.{true, not}
 use mathlib.Core.Logic.{⊎-elim}
-use lib.Dec.{T}
+use lib.Dec.{T, lit≤}
 use lib.IntN.{ℤ}
-use lib.Ieee.{binary32, ofBits, neg}
+use lib.Ieee.{Float, binary32, ofBits, neg}
 use lib.Ieee.Positive.{positive}
 use Rattle.refusals.specs.Paper.{Paper, answered, passed}
 use Rattle.refusals.specs.declared.Refusal.the-variants.{Height, Latitude, Longitude}
@@ -14,7 +14,9 @@ use Rattle.models.specs.Dated.{Dated, dated}
 use Rattle.synthesis.specs.Demand as Sum
 use Rattle.field.specs.declared.strengths.GeomagneticField.{GeomagneticField}
 use Rattle.field.specs.Field.{Accepted, Asked, Close, field-x, field-y, field-z, handed, placeSays, recordOf, strengthsOf}
-use Rattle.exact.specs.Ranks.{Leaf}
+use Rattle.exact.specs.Exact.{Exact}
+use Rattle.exact.specs.Ranks.{Leaf, Nr}
+use Rattle.exact.specs.Reach.{within}
 use Rattle.synthesis.proofs.Checked.{Listed, holds}
 use Rattle.exact.specs.Tests.{circle}
 use Rattle.geocentric.specs.Geo.{heightOk, latitudeOk}
@@ -22,10 +24,27 @@ use Rattle.synthesis.specs.Sum.{listsSay, near-pole, ratio-ok, small-sine, sumS
 use Rattle.geocentric.proofs.Laws.{never-10, never-9, sine-positive, latitude-leaf}
 use Rattle.field.proofs.Offset.{never-11}
 use Rattle.synthesis.proofs.Carry.{numbers-accept}
-use Rattle.synthesis.specs.Arithmetic.{sizes, unrounded}
-use Rattle.field.proofs.TurnNear.{turned-x-within, turned-z-within}
+use Rattle.synthesis.specs.Arithmetic.{Arithmetic}
+use Rattle.synthesis.specs.Keeps.{Keeps, rounded-keeps}
+use Rattle.synthesis.specs.Terms.{angS, legS, powS}
+use Rattle.synthesis.specs.Sums.{accA, eastA, sum-y-near}
+use Rattle.field.proofs.TurnNear.{turned-x-near, turned-z-near, turnedA}
 use Rattle.field.proofs.TurnRelated.{turn-x-related, turn-z-related}
-use Rattle.synthesis.specs.Majorant.{SizeIs, size-related, x-majorant, z-majorant}
+use Rattle.synthesis.specs.Majorant.{Hom, hom-related, size-hom, x-image, y-image, z-image}
+
+-- ---- a map that respects the operations carries X, Y and Z over
+module _ {A B : Type 0} {o : Arithmetic A} {o' : Arithmetic B} {φ : A → B} (k : Hom o o' φ) (a : Asked) (e : EpochOffset) where
+  pub field-x-image : φ (field-x o a e) ≡ field-x o' a e
+  unfolding field-x
+  field-x-image = let s = handed a e in turn-x-related o o' (λ x y. φ x ≡ y) (hom-related k) (s .cos-theta) (s .sin-theta) (a .cos-phi) (a .sin-phi) (x-image k s) (z-image k s)
+
+  pub field-y-image : φ (field-y o a e) ≡ field-y o' a e
+  unfolding field-y
+  field-y-image = y-image k (handed a e)
+
+  pub field-z-image : φ (field-z o a e) ≡ field-z o' a e
+  unfolding field-z
+  field-z-image = let s = handed a e in turn-z-related o o' (λ x y. φ x ≡ y) (hom-related k) (s .cos-theta) (s .sin-theta) (a .cos-phi) (a .sin-phi) (x-image k s) (z-image k s)
 
 module _ (a : Asked) (e : EpochOffset) (w : Accepted a e) where
   -- never 9: the computed pair passes the circle test; never 10: the ratio lies in its range
@@ -68,17 +87,28 @@ module _ (a : Asked) (e : EpochOffset) (w : Accepted a e) where
     lat-c : Leaf 2 (a .cos-phi)
     lat-c = latitude-leaf (a .sin-phi) (a .cos-phi) (w .latitude) .1
 
+    -- X, Y and Z on floats lie near the exact ones, for any two arithmetics of which one keeps near the other
+    module _ {o : Arithmetic Float} {o' : Arithmetic Exact} (kept : Keeps o o') where
+      pub field-x-near : Nr turnedA (field-x o a e) (field-x o' a e)
+      unfolding field-x
+      field-x-near = turned-x-near kept (handed a e) sum-accepted (a .cos-phi) (a .sin-phi) lat-c lat-s
+
+      pub field-y-near : Nr eastA (field-y o a e) (field-y o' a e)
+      unfolding field-y
+      field-y-near = sum-y-near kept (handed a e) (Sum.ok (handed a e) sum-accepted) (Sum.sine-divides (handed a e) sum-accepted)
+
+      pub field-z-near : Nr turnedA (field-z o a e) (field-z o' a e)
+      unfolding field-z
+      field-z-near = turned-z-near kept (handed a e) sum-accepted (a .cos-phi) (a .sin-phi) lat-c lat-s
+
     -- demand 3 for Field
     pub close : Close a e (recordOf (strengthsOf a e) (e .«epoch_year»))
-    unfolding field-x field-y field-z
+    unfolding accA legS angS powS
     close =
-        let s = handed a e in
         record {
-          x = Sum.majored (turn-x-related unrounded sizes SizeIs size-related (s .cos-theta) (s .sin-theta) (a .cos-phi) (a .sin-phi) (x-majorant s) (z-majorant s))
-              (turned-x-within s sum-accepted (a .cos-phi) (a .sin-phi) lat-c lat-s);
-          y = Sum.close s sum-accepted .y;
-          z = Sum.majored (turn-z-related unrounded sizes SizeIs size-related (s .cos-theta) (s .sin-theta) (a .cos-phi) (a .sin-phi) (x-majorant s) (z-majorant s))
-              (turned-z-within s sum-accepted (a .cos-phi) (a .sin-phi) lat-c lat-s);
+          x = Sum.majored (field-x-image size-hom a e) (within (field-x-near rounded-keeps) (lit≤ tt) (lit≤ tt));
+          y = Sum.majored (field-y-image size-hom a e) (within (field-y-near rounded-keeps) (lit≤ tt) (lit≤ tt));
+          z = Sum.majored (field-z-image size-hom a e) (within (field-z-near rounded-keeps) (lit≤ tt) (lit≤ tt));
         }
 
 -- ---- what an answer says of what is asked

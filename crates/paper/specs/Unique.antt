@@ -38,6 +38,10 @@ use Rattle.field.specs.Strengths.{hOf, fOf, strengthSaid, strengthSays, zoneSai
 use Rattle.field.specs.Grid.{Variation, gridSaid, gridSays}
 use Rattle.field.proofs.Answers.{field-answer-one}
 use Rattle.field.proofs.StrengthLaws.{strength-one, zone-one, grid-one}
+use Rattle.allowance.specs.declared.AllowanceAnswer.{AllowanceAnswer}
+use Rattle.allowance.specs.Allowance.{allowanceSays}
+use Rattle.allowance.specs.Allowance as allowances
+use Rattle.allowance.proofs.Answers.{allowance-answer-one}
 use Rattle.refusals.specs.Paper.{Paper}
 use Rattle.ffi.specs.Told.{numberOf, result, entryPlace, yearsPlace, variationPlace}
 
@@ -122,6 +126,10 @@ declination-uncertainty v y = strength-one (uncertaintySays v y)
 
 pub grid-variation : (lat lon d : Float) (r s : GridAnswer) → gridSaid r ≡ gridSays lat lon d → gridSaid s ≡ gridSays lat lon d → r ≡ s
 grid-variation lat lon d = grid-one (gridSays lat lon d)
+
+-- ---- allowance
+pub allowance : (a : Asked) (year day : ℤ) (r s : AllowanceAnswer) → allowances.said r ≡ allowanceSays a year day → allowances.said s ≡ allowanceSays a year day → r ≡ s
+allowance = allowance-answer-one
 
 -- ---- ffi: the contract of every entry is one equation for its number and one for each place that it was lent, over one answer p
 pub number : {A : Type 0} (p : Paper A) (r s : ℕ) → r ≡ numberOf p → s ≡ numberOf p → r ≡ s

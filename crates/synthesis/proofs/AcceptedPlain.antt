@@ -17,6 +17,7 @@ use Rattle.tables.specs.Degree.{N-MAX, place}
 use Rattle.tables.specs.Tables.{kAt, kBits}
 use Rattle.synthesis.specs.Demand.{Accepted, ok}
 use Rattle.synthesis.specs.Same.{null}
+use Rattle.synthesis.specs.Keeps.{rounded-keeps}
 use Rattle.synthesis.specs.Sum.{Lent, inputs}
 use Rattle.synthesis.specs.Terms.{legA, legS, leg-near}
 use Rattle.synthesis.proofs.LaneLaws.{Plain}
@@ -57,5 +58,5 @@ plain a w c s =
       K-held = λ n m. ofBits-fits binary32 _;
       K-finite = λ n m. near-size (o .K n m) (fine tt tt tt) .0;
       K-last = λ n z l. (false, ap (ofBits binary32) (last-at N-MAX n z l last-zeros) ∙ zero-is);
-      P-finite = λ n m l. (let p = leg-near (inputs a) o n m l in (near-size (p .0) (fine-ok legA tt) .0, near-size (p .1) (fine-ok legA tt) .0));
+      P-finite = λ n m l. (let p = leg-near rounded-keeps (inputs a) o n m l in (near-size (p .0) (fine-ok legA tt) .0, near-size (p .1) (fine-ok legA tt) .0));
     }

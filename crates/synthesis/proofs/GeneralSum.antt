@@ -43,7 +43,7 @@ get-any [] k d e h = absurd (not-suc-le-zero h)
 get-any (x ∷ l) zero d e h = refl
 get-any (x ∷ l) (suc k) d e h = get-any l k d e (le-of-suc-le-suc h)
 
-at-read : (l : List Float) (n m j : ℕ) → length l ≡ N-COEFF → 0 < n → n < M-LEN → m ≤ n → j ≡ place n m - 1 → getD l j nan ≡ at l n m
+pub at-read : (l : List Float) (n m j : ℕ) → length l ≡ N-COEFF → 0 < n → n < M-LEN → m ≤ n → j ≡ place n m - 1 → getD l j nan ≡ at l n m
 at-read l n m j e z hn hm ej = rw ej (get-any l (place n m - 1) nan nought (omega (arith, most n hn, least n z)))
 
 module _ (a : Lent) (n m j : ℕ) (z : 0 < n) (hn : n < M-LEN) (hm : m ≤ n) (ej : j ≡ place n m - 1) where

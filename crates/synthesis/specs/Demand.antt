@@ -3,7 +3,7 @@ use mathlib.Core.Path.{_≡_, sym, subst}
 use mathlib.Core.List.{List, [], _∷_}
 use Prim.Native.Nat.{ℕ, zero, suc, _+_, _-_, _*_, _≤_, zero-le}
 use native.Mathlib.Nat.{add-zero, zero-add}
-use mathlib.Core.Bool.{Bool, true, false, not, _&&_, cond}
+use mathlib.Core.Bool.{Bool, true, false, not, _&&_}
 use lib.ListN.{getD}
 use lib.IntN.{ℤ, pos, negsuc}
 use lib.Dec.{T, leb, leb→le, nltb→le, le→leb, lit≤, lit<}
@@ -14,12 +14,13 @@ use Rattle.exact.specs.Tests.{circle, all-capped, between, capped}
 use Rattle.exact.specs.Sizes.{leaf, size-leaf, inverse}
 use Rattle.synthesis.specs.Sum.{Close, Lent, at, inputs, main-cap, near-pole, nought, offset-ok, rate-cap, ratio-ok, small-sine, sum-x, sum-y, sum-z, valueOf}
 use Rattle.exact.specs.Exact.{Exact, Size, own, size}
-use Rattle.exact.specs.Ranks.{Leaf, fine}
+use Rattle.exact.specs.Ranks.{Leaf}
 use Rattle.synthesis.specs.Terms.{Ok, angS, legS, powS}
 use Rattle.exact.specs.Within.{Within}
-use Rattle.synthesis.specs.Sums.{accA, pole-x-near, pole-y-near, pole-z-near, x-sum-near, y-sum-near, z-sum-near}
+use Rattle.synthesis.specs.Keeps.{Divides, rounded-keeps}
+use Rattle.synthesis.specs.Sums.{accA, sum-x-near, sum-y-near, sum-z-near}
 use Rattle.tables.specs.Tables.{kAt, kBits, schmidtAt, schmidtBits}
-use Rattle.exact.specs.Near.{near-div, near-own}
+use Rattle.exact.specs.Near.{near-own}
 use Rattle.tables.specs.Degree.{place}
 use Rattle.synthesis.specs.Arithmetic.{rounded, sizes, unrounded}
 use Rattle.exact.specs.Reach.{within}
@@ -136,31 +137,30 @@ abs-above (inf s) t h = absurd t
 abs-above (fin false m e) t h = subst (λ (z : ℕ). 8589935 * 1 * down e ≤ z * down (negsuc 32)) (sym (add-zero (m * up e))) (nltb→le (m * up e * down (negsuc 32)) (8589935 * 1 * down e) h)
 abs-above (fin true m e) t h = subst (λ (z : ℕ). 8589935 * 1 * down e ≤ z * down (negsuc 32)) (sym (zero-add (m * up e))) (nltb→le (m * up e * down (negsuc 32)) (8589935 * 1 * down e) h)
 
-pub either : (b : Bool) (f g : Float) (x y : Exact) → (T b → Within f x (size x)) → (T (not b) → Within g y (size y)) → Within (cond b f g) (cond b x y) (size (cond b x y))
-either true f g x y p q = p tt
-either false f g x y p q = q tt
-
 pub majored : {f : Float} {x : Exact} {M : Size} → size x ≡ M → Within f x (size x) → Within f x M
 majored {f} {x} e w = subst (λ (M : Size). Within f x M) e w
 
 module _ (a : Lent) (w : Accepted a) where
-  sum-x-within : Within (sum-x rounded a) (sum-x unrounded a) (sum-x sizes a)
-  unfolding accA legS angS powS
-  sum-x-within = majored (x-majorant a) (either (near-pole a) _ _ _ _ (λ t. within (pole-x-near (inputs a) (ok a w)) (lit≤ tt) (lit≤ tt)) (λ t. within (x-sum-near (inputs a) (ok a w)) (lit≤ tt) (lit≤ tt)))
-
-  sum-z-within : Within (sum-z rounded a) (sum-z unrounded a) (sum-z sizes a)
-  unfolding accA legS angS powS
-  sum-z-within = majored (z-majorant a) (either (near-pole a) _ _ _ _ (λ t. within (pole-z-near (inputs a) (ok a w)) (lit≤ tt) (lit≤ tt)) (λ t. within (z-sum-near (inputs a) (ok a w)) (lit≤ tt) (lit≤ tt)))
-
   sine-finite : T (finite (a .sin-theta))
   sine-finite = circled (a .sin-theta) (a .cos-theta) (w .colatitude) .finite-s
 
   -- 1 / sine is at most 1024 in size on the general path
+  pub sine-divides : T (not (near-pole a)) → Divides 1024 (a .sin-theta)
+  sine-divides t =
+      let b = inverse 1024 8589935 (negsuc 32) (a .sin-theta) (lit< tt) (lit≤ tt) sine-finite (abs-above (a .sin-theta) sine-finite t) in
+      record { is-finite = sine-finite; over = b .0; size = b .1 }
+
+  sum-x-within : Within (sum-x rounded a) (sum-x unrounded a) (sum-x sizes a)
+  unfolding accA legS angS powS
+  sum-x-within = majored (x-majorant a) (within (sum-x-near rounded-keeps a (ok a w)) (lit≤ tt) (lit≤ tt))
+
   sum-y-within : Within (sum-y rounded a) (sum-y unrounded a) (sum-y sizes a)
-  unfolding accA legS angS powS rounded unrounded
-  sum-y-within = majored (y-majorant a) (either (near-pole a) _ _ _ _ (λ t. within (pole-y-near (inputs a) (ok a w)) (lit≤ tt) (lit≤ tt))
-      (λ t. let b = inverse 1024 8589935 (negsuc 32) (a .sin-theta) (lit< tt) (lit≤ tt) sine-finite (abs-above (a .sin-theta) sine-finite t) in
-      within (near-div 1024 (a .sin-theta) (y-sum-near (inputs a) (ok a w)) sine-finite (b .0) (b .1) (fine tt tt tt)) (lit≤ tt) (lit≤ tt)))
+  unfolding accA legS angS powS
+  sum-y-within = majored (y-majorant a) (within (sum-y-near rounded-keeps a (ok a w) sine-divides) (lit≤ tt) (lit≤ tt))
+
+  sum-z-within : Within (sum-z rounded a) (sum-z unrounded a) (sum-z sizes a)
+  unfolding accA legS angS powS
+  sum-z-within = majored (z-majorant a) (within (sum-z-near rounded-keeps a (ok a w)) (lit≤ tt) (lit≤ tt))
 
   pub close : Close a (valueOf a)
   close = record { x = sum-x-within; y = sum-y-within; z = sum-z-within }

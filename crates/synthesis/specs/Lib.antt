@@ -2,6 +2,7 @@
 pub mod Arithmetic
 pub mod Recurrence
 pub mod Sum
+pub mod Keeps
 pub mod Terms
 pub mod Sums
 pub mod Related

@@ -5,12 +5,12 @@ use native.Mathlib.Nat.{add-comm}
 use native.Mathlib.Omega.{arith}
 use lib.Ieee.{Float}
 use Rattle.synthesis.specs.Arithmetic.{Arithmetic, plusS, sizes, timesS, unrounded}
-use Rattle.exact.specs.Exact.{Exact, Size, addE, invE, mulE, negE, own, size, subE}
+use Rattle.exact.specs.Exact.{addE, invE, mulE, negE, own, size, subE}
 use Rattle.synthesis.specs.Recurrence.{g-at, h-at}
 use Rattle.synthesis.specs.Related.{Related, Alike, sum-x-related, sum-y-related, sum-z-related}
 use Rattle.synthesis.specs.Sum.{Lent, inputs, sum-x, sum-y, sum-z}
 
--- ---- a map that respects the operations; sizes are one
+-- ---- a map that respects the operations
 pub record Hom {A B : Type 0} (o : Arithmetic A) (o' : Arithmetic B) (φ : A → B) : Type 0 where
   pub plus : (x y : A) → φ (o .plus x y) ≡ o' .plus (φ x) (φ y)
   pub less : (x y : A) → φ (o .less x y) ≡ o' .less (φ x) (φ y)
@@ -19,6 +19,48 @@ pub record Hom {A B : Type 0} (o : Arithmetic A) (o' : Arithmetic B) (φ : A →
   pub over : (x : A) (f : Float) → φ (o .over x f) ≡ o' .over (φ x) f
   pub num : (f : Float) → φ (o .num f) ≡ o' .num f
 
+module _ {A B : Type 0} {o : Arithmetic A} {o' : Arithmetic B} {φ : A → B} (k : Hom o o' φ) where
+  -- every operation keeps the relation between a number and its image
+  pub hom-related : Related o o' (λ x y. φ x ≡ y)
+  hom-related =
+      record {
+        plus = λ p q. k .plus _ _ ∙ ap₂ (o' .plus) p q;
+        less = λ p q. k .less _ _ ∙ ap₂ (o' .less) p q;
+        times = λ p q. k .times _ _ ∙ ap₂ (o' .times) p q;
+        opp = λ p. k .opp _ ∙ ap (o' .opp) p;
+        over = λ f p. k .over _ f ∙ ap (λ (s : B). o' .over s f) p;
+        num = k .num;
+      }
+
+  -- so it carries the sums of Sum over
+  module _ (a : Lent) where
+    alike : Alike o o' (λ x y. φ x ≡ y) (inputs a) (inputs a)
+    unfolding g-at h-at
+    alike =
+        let r = hom-related in
+        let i = inputs a in
+        record {
+          cos-theta = r .num _;
+          sin-theta = r .num _;
+          sin-lambda = r .num _;
+          cos-lambda = r .num _;
+          ratio = r .num _;
+          S = λ n m. r .num _;
+          K = λ n m. r .num _;
+          g = λ n m. r .plus (r .num (i .g n m)) (r .times (r .num (i .offset)) (r .num (i .g-dot n m)));
+          h = λ n m. r .plus (r .num (i .h n m)) (r .times (r .num (i .offset)) (r .num (i .h-dot n m)));
+        }
+
+    pub x-image : φ (sum-x o a) ≡ sum-x o' a
+    x-image = sum-x-related o o' (λ x y. φ x ≡ y) hom-related a a refl alike
+
+    pub y-image : φ (sum-y o a) ≡ sum-y o' a
+    y-image = sum-y-related o o' (λ x y. φ x ≡ y) hom-related a a refl alike
+
+    pub z-image : φ (sum-z o a) ≡ sum-z o' a
+    z-image = sum-z-related o o' (λ x y. φ x ≡ y) hom-related a a refl alike
+
+-- ---- sizes are such an image
 sum-ring : (a b c d o p : ℕ) → a * p + c * o + (b * p + d * o) ≡ (a + b) * p + (c + d) * o
 sum-ring a b c d o p = omega arith
 
@@ -40,45 +82,13 @@ size-hom =
       num = λ f. refl;
     }
 
--- ---- so every operation keeps the relation between a number and its size
-abbrev pub SizeIs : Exact → Size → Type 0
-SizeIs x s = size x ≡ s
-
-pub size-related : Related unrounded sizes SizeIs
-size-related =
-    record {
-      plus = λ p q. size-hom .plus _ _ ∙ ap₂ (sizes .plus) p q;
-      less = λ p q. size-hom .less _ _ ∙ ap₂ (sizes .less) p q;
-      times = λ p q. size-hom .times _ _ ∙ ap₂ (sizes .times) p q;
-      opp = λ p. size-hom .opp _ ∙ ap (sizes .opp) p;
-      over = λ f p. size-hom .over _ f ∙ ap (λ (s : Size). sizes .over s f) p;
-      num = size-hom .num;
-    }
-
--- ---- the majorants of Sum
+-- the majorants of Sum
 module _ (a : Lent) where
-  alike : Alike unrounded sizes SizeIs (inputs a) (inputs a)
-  unfolding g-at h-at
-  alike =
-      let k = size-related in
-      let i = inputs a in
-      record {
-        cos-theta = k .num _;
-        sin-theta = k .num _;
-        sin-lambda = k .num _;
-        cos-lambda = k .num _;
-        ratio = k .num _;
-        S = λ n m. k .num _;
-        K = λ n m. k .num _;
-        g = λ n m. k .plus (k .num (i .g n m)) (k .times (k .num (i .offset)) (k .num (i .g-dot n m)));
-        h = λ n m. k .plus (k .num (i .h n m)) (k .times (k .num (i .offset)) (k .num (i .h-dot n m)));
-      }
-
   pub x-majorant : size (sum-x unrounded a) ≡ sum-x sizes a
-  x-majorant = sum-x-related unrounded sizes SizeIs size-related a a refl alike
+  x-majorant = x-image size-hom a
 
   pub y-majorant : size (sum-y unrounded a) ≡ sum-y sizes a
-  y-majorant = sum-y-related unrounded sizes SizeIs size-related a a refl alike
+  y-majorant = y-image size-hom a
 
   pub z-majorant : size (sum-z unrounded a) ≡ sum-z sizes a
-  z-majorant = sum-z-related unrounded sizes SizeIs size-related a a refl alike
+  z-majorant = z-image size-hom a

@@ -1,0 +1,12 @@
+-- Laws that the proofs of the loops lean on; then the laws of the allowance: what is shown covers the distance of demand 3.
+pub mod Lits
+pub mod Column
+pub mod Parts
+pub mod Degrees
+pub mod Majorants
+pub mod Kept
+pub mod Wholly
+pub mod Shown
+pub mod Laws
+pub mod Distance
+pub mod Answers

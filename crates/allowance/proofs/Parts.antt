@@ -1,0 +1,32 @@
+-- What is read at a degree and an order.
+use mathlib.Core.Path.{_≡_}
+use mathlib.Core.List.{List}
+use Prim.Native.Nat.{ℕ, _-_, _<_, _≤_}
+use lib.ListN.{getD, length}
+use lib.Ieee.{Float, nan, binary32, add, mul}
+use Rattle.exact.specs.Tests.{abs}
+use Rattle.tables.specs.Degree.{M-LEN, N-COEFF, place}
+use Rattle.tables.specs.Tables.{schmidtAt}
+use Rattle.synthesis.specs.Recurrence.{coefficient, dpsn, g-at, h-at, legendre, psn}
+use Rattle.synthesis.specs.Sum.{at, inputs}
+use Rattle.synthesis.proofs.GeneralSum.{at-read}
+use Rattle.allowance.specs.declared.Point.{Point}
+use Rattle.allowance.specs.declared.angles.SinCos.{SinCos}
+use Rattle.allowance.specs.declared.rows.PDp.{PDp}
+use Rattle.allowance.specs.declared.terms.Parts.{Parts}
+use Rattle.allowance.specs.Bounds.{bounds}
+use Rattle.allowance.specs.Code.{Long, lentAt, pairOf, partsOf, pdp}
+
+pub parts-are : (q : Point) (g h gd hd : List Float) (n m k : ℕ) (u : SinCos) (s gt ht : Float) (r : PDp)
+    → 0 < n → n < M-LEN → m ≤ n → k ≡ place n m - 1 → Long g h gd hd
+    → s ≡ abs (schmidtAt (place n m))
+    → gt ≡ coefficient bounds (abs (getD g k nan)) (abs (getD gd k nan)) (abs (q .offset))
+    → ht ≡ coefficient bounds (abs (getD h k nan)) (abs (getD hd k nan)) (abs (q .offset))
+    → r ≡ pdp (legendre bounds (inputs (lentAt q g h gd hd)) n m)
+    → _≡_ {A = Parts}
+    (record { gc = add binary32 (mul binary32 gt (u .cos)) (mul binary32 ht (u .sin)); gs = add binary32 (mul binary32 gt (u .sin)) (mul binary32 ht (u .cos)); ps = mul binary32 s (r .p); dps = mul binary32 s (r .dp) })
+    (partsOf (lentAt q g h gd hd) n m (pairOf u))
+unfolding partsOf inputs g-at h-at psn dpsn bounds
+parts-are q g h gd hd n m k u s gt ht r z hn hm ek L es eg eh er =
+    let read : (l : List Float) → length l ≡ N-COEFF → getD l k nan ≡ at l n m = λ l e. at-read l n m k e z hn hm ek in
+    rw (es, eg, eh, er, read g (L .g-long), read h (L .h-long), read gd (L .gd-long), read hd (L .hd-long))

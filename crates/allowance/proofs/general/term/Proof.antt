@@ -1,0 +1,34 @@
+-- `allowance::general::term` meets its contract. Assumes nothing.
+use Prim.Native.Nat.{_^_}
+use native.Mathlib.Omega.{arith}
+use borrow.Author.Needs.{needs}
+use lib.Dec.{le→leb}
+use lib.Ieee.{inFloat}
+use Rattle.synthesis.specs.Recurrence.{lit, gc-hs, gs-hc}
+use Rattle.synthesis.specs.Sum.{inputs}
+use Rattle.allowance.specs.Bounds.{bounds}
+use Rattle.allowance.specs.Code.{partsOf}
+use Rattle.allowance.proofs.Lits.{lit-size}
+use Rattle.allowance.proofs.general.term.Statement.{statement}
+use Rattle.allowance.proofs.general.term.Tie as tie
+
+sin-cos-m-lambda-requires : tie.Need-sin-cos-m-lambda-requires
+sin-cos-m-lambda-requires c κs = search needs
+
+parts-at-requires : tie.Need-parts-at-requires
+parts-at-requires c κs = search needs
+
+int-to-float-order : tie.Need-int-to-float-order
+unfolding inFloat
+int-to-float-order c = le→leb (c .before .before .before .before .before .before .before .args .m) (2 ^ 24) (omega arith)
+
+returns : tie.Need-returns
+unfolding partsOf bounds lit gc-hs gs-hc inputs
+returns c =
+    let p = c .before .before .before .before .before in
+    let s = p .before .before .before .before .before .before in
+    rw (p .parts-at .ensures, p .before .sin-cos-m-lambda .ensures, ← lit-size (s .args .m))
+
+pub term-spec : {M : Type 1} → statement M
+term-spec =
+    tie.close (tie.spec sin-cos-m-lambda-requires parts-at-requires int-to-float-order returns)
