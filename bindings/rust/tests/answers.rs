@@ -1,8 +1,8 @@
 //! The wrapper's answers, its refusals with what they carry, and their words. tools/test-library runs
 //! it.
 use njerumoy::{
-    allowance, epoch, field, grid_variation, published, square_root, sum, Day, Errors, Field, List, Pair,
-    Refusal, Set, Zone,
+    allowance, epoch, field, grid_variation, published, square_root, sum, Day, Errors, Field, List,
+    Pair, Refusal, Set, Zone,
 };
 
 const FIRST_OF_2025: Day = Day {
