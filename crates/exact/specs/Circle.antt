@@ -1,10 +1,10 @@
--- A pair that passes the circle test has members of size at most 2: otherwise a square would round to 4 or more.
+-- A pair that passes the circle test has members of size at most 3/2: otherwise a square would round to 9/4 or more.
 use mathlib.Core.Path.{_≡_, refl, sym, subst}
 use Prim.Native.Nat.{ℕ, zero, suc, _+_, _*_, _^_, _≤_, _<_}
-use native.Mathlib.Nat.{le-trans, le-of-eq, le-of-lt, le-add-right, le-add-left, add-zero, zero-add, mul-pos, mul-one, mul-assoc, mul-le-mul, mul-le-mul-right}
+use native.Mathlib.Nat.{le-trans, le-of-eq, le-of-lt, add-zero, zero-add, mul-pos, mul-comm, add-comm, mul-le-mul, mul-le-mul-right}
 use native.Mathlib.Omega.{arith}
 use mathlib.Core.Bool.{Bool, true, false, not, _&&_, cond, true≢false}
-use lib.IntN.{pos, negsuc}
+use lib.IntN.{negsuc}
 use lib.Dec.{T, ltb, leb, leb→le, nleb→lt, lit<}
 use lib.Ieee.{Float, nan, inf, fin, binary32, up, down, odd, units, round, add, mul, lt, eq, le, sum, ofBits}
 use lib.Ieee.Fits.{down-pos, round-is, and-i, and-l, and-r}
@@ -21,10 +21,11 @@ NonNeg nan = ⊥
 NonNeg (inf s) = s ≡ false
 NonNeg (fin s m e) = s ≡ false
 
-abbrev Four : Float → Type 0
-Four nan = ⊥
-Four (inf s) = s ≡ false
-Four (fin s m e) = (s ≡ false) × (4 * down e ≤ m * up e)
+-- at least 9/4
+abbrev Big : Float → Type 0
+Big nan = ⊥
+Big (inf s) = s ≡ false
+Big (fin s m e) = (s ≡ false) × (9 * down e ≤ m * up e * 4)
 
 odd-nonneg : (d q k l : ℕ) → NonNeg (odd d false q k l)
 unfolding odd
@@ -44,21 +45,21 @@ round-nonneg num den =
         cut true = odd-nonneg 25 q k 149
         cut false = refl
 
-at-least : (z : Float) → NonNeg z → T (le (fin false 1 (pos 2)) z) → Four z
+at-least : (z : Float) → NonNeg z → T (le (fin false 9 (negsuc 1)) z) → Big z
 unfolding le lt eq
 at-least nan h t = absurd t
 at-least (inf s) h t = h
-at-least (fin false m e) h t = (h, le-trans (or-le (1 * 4 * down e) (m * up e * 1) true t) (le-of-eq (mul-one (m * up e))))
+at-least (fin false m e) h t = (h, or-le (9 * 1 * down e) (m * up e * 4) true t)
 at-least (fin true m e) h t = absurd (true≢false h)
 
-four-is : round binary32 false 4 1 ≡ fin false 1 (pos 2)
+big-is : round binary32 false 9 4 ≡ fin false 9 (negsuc 1)
 unfolding round
-four-is = refl
+big-is = refl
 
-round-four : (num den : ℕ) → 0 < den → 4 * den ≤ num → Four (round binary32 false num den)
-round-four num den D h =
+round-big : (num den : ℕ) → 0 < den → 9 * den ≤ num * 4 → Big (round binary32 false num den)
+round-big num den D h =
     at-least (round binary32 false num den) (round-nonneg num den)
-    (subst (λ (z : Float). T (le z (round binary32 false num den))) four-is (round-mono binary32 4 1 num den (lit< tt) D (le-trans h (le-of-eq (sym (mul-one num))))))
+    (subst (λ (z : Float). T (le z (round binary32 false num den))) big-is (round-mono binary32 9 4 num den (lit< tt) D h))
 
 square-nonneg : (x : Float) → T (finite x) → NonNeg (mul binary32 x x)
 unfolding mul
@@ -67,83 +68,96 @@ square-nonneg (inf s) t = absurd t
 square-nonneg (fin false m e) t = round-nonneg (m * up e * (m * up e)) (down e * down e)
 square-nonneg (fin true m e) t = round-nonneg (m * up e * (m * up e)) (down e * down e)
 
-big : (a d : ℕ) → 2 * d < a → 4 * (d * d) ≤ a * a
-big a d h = le-trans (le-of-eq (r d)) (mul-le-mul (le-of-lt h) (le-of-lt h))
+big : (a d : ℕ) → 3 * d < 2 * a → 9 * (d * d) ≤ a * a * 4
+big a d h = le-trans (le-of-eq (r d)) (le-trans (mul-le-mul (le-of-lt h) (le-of-lt h)) (le-of-eq (s a)))
   where
-    r : (d : ℕ) → 4 * (d * d) ≡ 2 * d * (2 * d)
+    r : (d : ℕ) → 9 * (d * d) ≡ 3 * d * (3 * d)
     r d = omega arith
 
-square-four : (x : Float) → T (finite x) → 2 * own x .over < own x .plus + own x .minus → Four (mul binary32 x x)
+    s : (a : ℕ) → 2 * a * (2 * a) ≡ a * a * 4
+    s a = omega arith
+
+square-big : (x : Float) → T (finite x) → 3 * own x .over < 2 * (own x .plus + own x .minus) → Big (mul binary32 x x)
 unfolding mul own
-square-four nan t h = absurd t
-square-four (inf s) t h = absurd t
-square-four (fin false m e) t h = round-four (m * up e * (m * up e)) (down e * down e) (mul-pos (down-pos e) (down-pos e)) (big (m * up e) (down e) (subst (λ (z : ℕ). 2 * down e < z) (add-zero (m * up e)) h))
-square-four (fin true m e) t h = round-four (m * up e * (m * up e)) (down e * down e) (mul-pos (down-pos e) (down-pos e)) (big (m * up e) (down e) (subst (λ (z : ℕ). 2 * down e < z) (zero-add (m * up e)) h))
+square-big nan t h = absurd t
+square-big (inf s) t h = absurd t
+square-big (fin false m e) t h = round-big (m * up e * (m * up e)) (down e * down e) (mul-pos (down-pos e) (down-pos e)) (big (m * up e) (down e) (subst (λ (z : ℕ). 3 * down e < 2 * z) (add-zero (m * up e)) h))
+square-big (fin true m e) t h = round-big (m * up e * (m * up e)) (down e * down e) (mul-pos (down-pos e) (down-pos e)) (big (m * up e) (down e) (subst (λ (z : ℕ). 3 * down e < 2 * z) (zero-add (m * up e)) h))
 
-sum-four : (a b c : ℕ) → 0 < c → 4 * c ≤ a + b → Four (sum binary32 false a false b c)
+sum-big : (a b c : ℕ) → 0 < c → 9 * c ≤ (a + b) * 4 → Big (sum binary32 false a false b c)
 unfolding sum
-sum-four a b c C h = round-four (a + b) c C h
+sum-big a b c C h = round-big (a + b) c C h
 
-add-four-l : (x y : Float) → Four x → NonNeg y → Four (add binary32 x y)
-unfolding add
-add-four-l nan y h k = absurd h
-add-four-l (inf s) nan h k = absurd k
-add-four-l (inf false) (inf false) h k = refl
-add-four-l (inf false) (inf true) h k = absurd (true≢false k)
-add-four-l (inf true) (inf t) h k = absurd (true≢false h)
-add-four-l (inf s) (fin t n d) h k = h
-add-four-l (fin s m e) nan h k = absurd k
-add-four-l (fin s m e) (inf t) h k = k
-add-four-l (fin false m e) (fin false n d) h k =
-    sum-four (m * up e * down d) (n * up d * down e) (down e * down d) (mul-pos (down-pos e) (down-pos d))
-    (le-trans (le-of-eq (sym (mul-assoc 4 (down e) (down d)))) (le-trans (mul-le-mul-right (down d) (h .1)) (le-add-right (m * up e * down d) (n * up d * down e))))
-add-four-l (fin false m e) (fin true n d) h k = absurd (true≢false k)
-add-four-l (fin true m e) (fin t n d) h k = absurd (true≢false (h .0))
+-- with something added
+more : (a d u b : ℕ) → 9 * d ≤ a * 4 → 9 * (d * u) ≤ (a * u + b) * 4
+more a d u b h =
+    let p : 9 * d * u ≤ a * 4 * u = mul-le-mul-right u h in
+    omega arith
 
-add-four-r : (x y : Float) → NonNeg x → Four y → Four (add binary32 x y)
+add-big-l : (x y : Float) → Big x → NonNeg y → Big (add binary32 x y)
 unfolding add
-add-four-r nan y h k = absurd h
-add-four-r (inf s) nan h k = absurd k
-add-four-r (inf false) (inf false) h k = refl
-add-four-r (inf false) (inf true) h k = absurd (true≢false k)
-add-four-r (inf true) (inf t) h k = absurd (true≢false h)
-add-four-r (inf s) (fin t n d) h k = h
-add-four-r (fin s m e) nan h k = absurd k
-add-four-r (fin s m e) (inf t) h k = k
-add-four-r (fin false m e) (fin false n d) h k =
-    sum-four (m * up e * down d) (n * up d * down e) (down e * down d) (mul-pos (down-pos e) (down-pos d))
-    (le-trans (le-of-eq (r (down e) (down d))) (le-trans (mul-le-mul-right (down e) (k .1)) (le-add-left (n * up d * down e) (m * up e * down d))))
-  where
-    r : (a b : ℕ) → 4 * (a * b) ≡ 4 * b * a
-    r a b = omega arith
-add-four-r (fin false m e) (fin true n d) h k = absurd (true≢false (k .0))
-add-four-r (fin true m e) (fin t n d) h k = absurd (true≢false h)
+add-big-l nan y h k = absurd h
+add-big-l (inf s) nan h k = absurd k
+add-big-l (inf false) (inf false) h k = refl
+add-big-l (inf false) (inf true) h k = absurd (true≢false k)
+add-big-l (inf true) (inf t) h k = absurd (true≢false h)
+add-big-l (inf s) (fin t n d) h k = h
+add-big-l (fin s m e) nan h k = absurd k
+add-big-l (fin s m e) (inf t) h k = k
+add-big-l (fin false m e) (fin false n d) h k =
+    sum-big (m * up e * down d) (n * up d * down e) (down e * down d) (mul-pos (down-pos e) (down-pos d))
+    (more (m * up e) (down e) (down d) (n * up d * down e) (h .1))
+add-big-l (fin false m e) (fin true n d) h k = absurd (true≢false k)
+add-big-l (fin true m e) (fin t n d) h k = absurd (true≢false (h .0))
+
+add-big-r : (x y : Float) → NonNeg x → Big y → Big (add binary32 x y)
+unfolding add
+add-big-r nan y h k = absurd h
+add-big-r (inf s) nan h k = absurd k
+add-big-r (inf false) (inf false) h k = refl
+add-big-r (inf false) (inf true) h k = absurd (true≢false k)
+add-big-r (inf true) (inf t) h k = absurd (true≢false h)
+add-big-r (inf s) (fin t n d) h k = h
+add-big-r (fin s m e) nan h k = absurd k
+add-big-r (fin s m e) (inf t) h k = k
+add-big-r (fin false m e) (fin false n d) h k =
+    sum-big (m * up e * down d) (n * up d * down e) (down e * down d) (mul-pos (down-pos e) (down-pos d))
+    (rw (mul-comm (down e) (down d), add-comm (m * up e * down d) (n * up d * down e)) (more (n * up d) (down d) (down e) (m * up e * down d) (k .1)))
+add-big-r (fin false m e) (fin true n d) h k = absurd (true≢false (k .0))
+add-big-r (fin true m e) (fin t n d) h k = absurd (true≢false h)
 
 -- 1 + 2 ^ -20
 abbrev pub circle-top : Float
 circle-top = fin false 1048577 (negsuc 19)
 
-too-big : (z : Float) → Four z → T (le z circle-top) → ⊥
+too-big : (z : Float) → Big z → T (le z circle-top) → ⊥
 unfolding le lt eq
 too-big nan h t = h
 too-big (inf false) h t = t
 too-big (inf true) h t = true≢false h
 too-big (fin false m e) h t = go (m * up e) (down e) (down-pos e) (h .1) (or-le (m * up e * 1048576) (1048577 * 1 * down e) true t)
   where
-    go : (a d : ℕ) → 0 < d → 4 * d ≤ a → a * 1048576 ≤ 1048577 * 1 * d → ⊥
+    go : (a d : ℕ) → 0 < d → 9 * d ≤ a * 4 → a * 1048576 ≤ 1048577 * 1 * d → ⊥
     go a d D p q = omega arith
 too-big (fin true m e) h t = true≢false (h .0)
 
-pub on-circle : (s c : Float) → T (finite s) → T (finite c) → T (le (add binary32 (mul binary32 s s) (mul binary32 c c)) circle-top) → AtMost 2 s × AtMost 2 c
+-- at most 3/2 in size
+abbrev pub Slight : Float → Type 0
+Slight x = 2 * (own x .plus + own x .minus) ≤ 3 * own x .over
+
+slight-two : (x : Float) → Slight x → AtMost 2 x
+slight-two x h = omega arith
+
+pub on-circle : (s c : Float) → T (finite s) → T (finite c) → T (le (add binary32 (mul binary32 s s) (mul binary32 c c)) circle-top) → Slight s × Slight c
 on-circle s c fs fc t = (
-  one (own s .plus + own s .minus) (own s .over) (λ (h : 2 * own s .over < own s .plus + own s .minus). too-big _ (add-four-l _ _ (square-four s fs h) (square-nonneg c fc)) t),
-  one (own c .plus + own c .minus) (own c .over) (λ (h : 2 * own c .over < own c .plus + own c .minus). too-big _ (add-four-r _ _ (square-nonneg s fs) (square-four c fc h)) t),
+  one (own s .plus + own s .minus) (own s .over) (λ (h : 3 * own s .over < 2 * (own s .plus + own s .minus)). too-big _ (add-big-l _ _ (square-big s fs h) (square-nonneg c fc)) t),
+  one (own c .plus + own c .minus) (own c .over) (λ (h : 3 * own c .over < 2 * (own c .plus + own c .minus)). too-big _ (add-big-r _ _ (square-nonneg s fs) (square-big c fc h)) t),
 )
   where
-    one : (a d : ℕ) → (2 * d < a → ⊥) → a ≤ 2 * d
-    one a d n = go (leb a (2 * d)) (leb→le a (2 * d)) (nleb→lt a (2 * d))
+    one : (a d : ℕ) → (3 * d < 2 * a → ⊥) → 2 * a ≤ 3 * d
+    one a d n = go (leb (2 * a) (3 * d)) (leb→le (2 * a) (3 * d)) (nleb→lt (2 * a) (3 * d))
       where
-        go : (b : Bool) → (T b → a ≤ 2 * d) → (T (not b) → 2 * d < a) → a ≤ 2 * d
+        go : (b : Bool) → (T b → 2 * a ≤ 3 * d) → (T (not b) → 3 * d < 2 * a) → 2 * a ≤ 3 * d
         go true p q = p tt
         go false p q = absurd (n (q tt))
 
@@ -176,4 +190,7 @@ pub circle-leaf : (s c : Float) → T (circle s c) → Leaf 2 s × Leaf 2 c
 circle-leaf s c h =
     let o = circled s c h in
     let u = on-circle s c (o .finite-s) (o .finite-c) (o .below) in
-    (near-own (o .finite-s) (u .0), near-own (o .finite-c) (u .1))
+    (near-own (o .finite-s) (slight-two s (u .0)), near-own (o .finite-c) (slight-two c (u .1)))
+
+pub circle-slight : (s c : Float) → T (circle s c) → Slight s × Slight c
+circle-slight s c h = let o = circled s c h in on-circle s c (o .finite-s) (o .finite-c) (o .below)

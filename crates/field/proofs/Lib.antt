@@ -6,3 +6,4 @@ pub mod Laws
 pub mod Answers
 pub mod StrengthLaws
 pub mod FirstDay
+pub mod Ceiling

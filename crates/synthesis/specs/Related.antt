@@ -116,15 +116,15 @@ module _ {A B : Type 0} (o : Arithmetic A) (o' : Arithmetic B) (R : A → B → 
     unfolding z-row
     z-row-related n = total-related _ _ (λ (m : ℕ). k .times (gc-related n m) (psn-related n m)) (suc n)
 
-    x-sum-related : (N : ℕ) → R (x-sum o i N) (x-sum o' j N)
+    pub x-sum-related : (N : ℕ) → R (x-sum o i N) (x-sum o' j N)
     unfolding x-sum
     x-sum-related N = total-related _ _ (λ (n : ℕ). k .times (power-related n) (x-row-related (suc n))) N
 
-    y-sum-related : (N : ℕ) → R (y-sum o i N) (y-sum o' j N)
+    pub y-sum-related : (N : ℕ) → R (y-sum o i N) (y-sum o' j N)
     unfolding y-sum
     y-sum-related N = total-related _ _ (λ (n : ℕ). k .times (power-related n) (y-row-related (suc n))) N
 
-    z-sum-related : (N : ℕ) → R (z-sum o i N) (z-sum o' j N)
+    pub z-sum-related : (N : ℕ) → R (z-sum o i N) (z-sum o' j N)
     unfolding z-sum
     z-sum-related N = total-related _ _ (λ (n : ℕ). k .times (down-related n) (z-row-related (suc n))) N
 
@@ -157,15 +157,15 @@ module _ {A B : Type 0} (o : Arithmetic A) (o' : Arithmetic B) (R : A → B → 
       unfolding pole-z-row
       pole-z-row-related n = total-related _ _ (λ (m : ℕ). k .times (pole-gc-related n m) (psn-related n m)) M
 
-      pole-x-related : (N : ℕ) → R (pole-x o i M N) (pole-x o' j M N)
+      pub pole-x-related : (N : ℕ) → R (pole-x o i M N) (pole-x o' j M N)
       unfolding pole-x
       pole-x-related N = total-related _ _ (λ (n : ℕ). k .times (power-related n) (pole-x-row-related (suc n))) N
 
-      pole-z-related : (N : ℕ) → R (pole-z o i M N) (pole-z o' j M N)
+      pub pole-z-related : (N : ℕ) → R (pole-z o i M N) (pole-z o' j M N)
       unfolding pole-z
       pole-z-related N = total-related _ _ (λ (n : ℕ). k .times (down-related n) (pole-z-row-related (suc n))) N
 
-    pole-y-related : (N : ℕ) → R (pole-y o i N) (pole-y o' j N)
+    pub pole-y-related : (N : ℕ) → R (pole-y o i N) (pole-y o' j N)
     unfolding pole-y
     pole-y-related N = total-related _ _ (λ (n : ℕ). k .times (k .times (k .times (power-related n) (pole-gs-related (suc n) 1)) (quotient-related (suc n))) (a .S (suc n) 1)) N
 

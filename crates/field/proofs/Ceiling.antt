@@ -1,0 +1,322 @@
+-- X, Y and Z of Field stay below 2 ^ 60 in size, for every accepted input: the majorants are worked out once, at the largest input, in units of 2 ^ -20 and with rounding upward.
+use mathlib.Core.Path.{_≡_, refl, sym, subst}
+use Prim.Native.Nat.{ℕ, zero, suc, _+_, _*_, _/_, _^_, _≤_, _<_}
+use native.Mathlib.Nat.{add-mul, div-add-mod', le-of-mul-le-mul-right, le-trans, mod-lt, mul-le-mul, mul-le-mul-right, not-suc-le-zero, zero-mul, mul-zero, zero-lt-suc}
+use native.Mathlib.Omega.{arith}
+use mathlib.Core.Bool.{Bool, true, false, not, _&&_, cond}
+use lib.Dec.{T, leb, leb→le, lit<, lit≤}
+use lib.IntN.{ℤ, pos, negsuc}
+use lib.Ieee.{Float, nan, inf, fin, binary32, up, down, ofBits, ofInt, round, le}
+use lib.Ieee.Bits.{is-true}
+use lib.Ieee.Fits.{and-i, and-l, and-r, down-pos}
+use lib.Ieee.Order.{le-of-values}
+use lib.Ieee.Positive.{between, den, num, own-value, values-of-le}
+use Rattle.exact.specs.Exact.{Exact, Size, invE, own, size}
+use Rattle.exact.specs.Circle.{Slight, circle-slight}
+use Rattle.exact.specs.Near.{Fine, Near}
+use Rattle.exact.specs.Ranks.{Leaf, fine-below, fine-ok}
+use Rattle.exact.specs.Reach.{near-size}
+use Rattle.exact.specs.Sizes.{own-over, own-size}
+use Rattle.exact.specs.Tests.{capped}
+use Rattle.models.specs.declared.epochs.EpochOffset.{EpochOffset}
+use Rattle.geocentric.proofs.Laws.{latitude-circle}
+use lib.Ieee.Scale.{finite}
+use Rattle.tables.specs.Degree.{N-MAX, place}
+use Rattle.tables.specs.Tables.{kAt, kBits, schmidtAt, schmidtBits}
+use Rattle.synthesis.specs.Arithmetic.{Arithmetic, plusS, rounded, sizes, timesS}
+use Rattle.synthesis.proofs.Checked.{Listed}
+use Rattle.synthesis.specs.Demand as Sum
+use Rattle.synthesis.specs.Sums.{accA, eastA}
+use Rattle.synthesis.specs.Terms.{angS, legS, powS}
+use Rattle.synthesis.specs.Keeps.{rounded-keeps}
+use Rattle.synthesis.specs.Majorant.{size-hom}
+use Rattle.field.specs.Turn.{cos-turn, sin-turn, turn-x, turn-z}
+use Rattle.field.specs.Field.{Accepted, Asked, field-x, field-y, field-z, fieldSays, handed, recordOf, strengthsOf}
+use Rattle.field.specs.declared.strengths.GeomagneticField.{GeomagneticField}
+use Rattle.field.proofs.Answers.{found}
+use Rattle.models.specs.Epochs.{epochOffset, knownEpoch}
+use Rattle.models.specs.Errors.{errorModel}
+use Rattle.refusals.specs.Paper.{answered}
+use Rattle.field.specs.Strengths.{hOf, strengthSays, uncertaintyOf, uncertaintySays, usable, zoneOf, zoneSays}
+use Rattle.field.proofs.TurnNear.{turnedA}
+use Rattle.field.proofs.Laws.{field-x-image, field-x-near, field-y-image, field-y-near, field-z-image, field-z-near, sum-accepted}
+use Rattle.synthesis.specs.Recurrence.{Input, angle, dpsn, g-at, gc-hs, gs-hc, h-at, legendre, lit, pole-angle, pole-gc, pole-gs, pole-x, pole-x-row, pole-y, pole-z, pole-z-row, power, psn, quotient, step, total, x-row, x-sum, y-row, y-sum, z-row, z-sum}
+use Rattle.synthesis.specs.Related.{Alike, Related, pole-x-related, pole-y-related, pole-z-related, x-sum-related, y-sum-related, z-sum-related}
+use Rattle.synthesis.specs.Sum.{Lent, POLE-ORDERS, inputs, main-cap, near-pole, rate-cap, ratio-ok, sum-x, sum-y, sum-z}
+
+-- ---- sizes in units of 2 ^ -20
+unfoldable upward : Size → ℕ
+upward s = s .num * 1048576 / s .over + 1
+
+unfoldable ceilings : Arithmetic ℕ
+unfolding upward
+ceilings =
+    record {
+      plus = λ a b. a + b;
+      less = λ a b. a + b;
+      times = λ a b. a * b / 1048576 + 1;
+      opp = λ a. a;
+      over = λ a s. a * upward (size (invE (own s))) / 1048576 + 1;
+      num = λ f. upward (size (own f));
+    }
+
+-- s is at most b units
+record Under (s : Size) (b : ℕ) : Type 0 where
+  units : 0 < s .over → s .num * 1048576 ≤ b * s .over
+
+left-pos : (a b : ℕ) → 0 < a * b → 0 < a
+left-pos zero b h = absurd (not-suc-le-zero (subst (λ (z : ℕ). 0 < z) (zero-mul b) h))
+left-pos (suc a) b h = zero-lt-suc a
+
+right-pos : (a b : ℕ) → 0 < a * b → 0 < b
+right-pos a zero h = absurd (not-suc-le-zero (subst (λ (z : ℕ). 0 < z) (mul-zero a) h))
+right-pos a (suc b) h = zero-lt-suc b
+
+-- n is at most the next multiple of d
+next-multiple : (n d : ℕ) → 0 < d → n ≤ (n / d + 1) * d
+next-multiple n d D = omega (arith, div-add-mod' n d, mod-lt n D, add-mul (n / d) 1 d)
+
+sum-under : (m n o p x y : ℕ) → m * 1048576 ≤ x * o → n * 1048576 ≤ y * p → (m * p + n * o) * 1048576 ≤ (x + y) * (o * p)
+sum-under m n o p x y h k = omega (arith, mul-le-mul-right p h, mul-le-mul-right o k)
+
+product-under : (m n o p x y : ℕ) → m * 1048576 ≤ x * o → n * 1048576 ≤ y * p → m * n * 1048576 ≤ (x * y / 1048576 + 1) * (o * p)
+product-under m n o p x y h k =
+    let a : m * 1048576 * (n * 1048576) ≤ x * o * (y * p) = mul-le-mul h k in
+    let b : x * y * (o * p) ≤ (x * y / 1048576 + 1) * 1048576 * (o * p) = mul-le-mul-right (o * p) (next-multiple (x * y) 1048576 (zero-lt-suc 1048575)) in
+    let l : m * n * 1048576 * 1048576 ≡ m * 1048576 * (n * 1048576) = omega arith in
+    let r : x * o * (y * p) ≡ x * y * (o * p) = omega arith in
+    let c : (x * y / 1048576 + 1) * 1048576 * (o * p) ≡ (x * y / 1048576 + 1) * (o * p) * 1048576 = omega arith in
+    le-of-mul-le-mul-right {k = 1048576} (omega arith) (zero-lt-suc 1048575)
+
+under-itself : (s : Size) → Under s (upward s)
+unfolding upward
+under-itself s = record { units = λ o. next-multiple (s .num * 1048576) (s .over) o }
+
+under-more : {s : Size} {b c : ℕ} → b ≤ c → Under s b → Under s c
+under-more {s} l h = record { units = λ o. le-trans (h .units o) (mul-le-mul-right (s .over) l) }
+
+under-plus : {a b : Size} {x y : ℕ} → Under a x → Under b y → Under (plusS a b) (x + y)
+unfolding plusS
+under-plus {a} {b} {x} {y} h k = record { units = λ o. sum-under (a .num) (b .num) (a .over) (b .over) x y (h .units (left-pos (a .over) (b .over) o)) (k .units (right-pos (a .over) (b .over) o)) }
+
+under-times : {a b : Size} {x y : ℕ} → Under a x → Under b y → Under (timesS a b) (x * y / 1048576 + 1)
+unfolding timesS
+under-times {a} {b} {x} {y} h k = record { units = λ o. product-under (a .num) (b .num) (a .over) (b .over) x y (h .units (left-pos (a .over) (b .over) o)) (k .units (right-pos (a .over) (b .over) o)) }
+
+under-related : Related sizes ceilings Under
+unfolding sizes ceilings
+under-related =
+    record {
+      plus = under-plus;
+      less = under-plus;
+      times = under-times;
+      opp = λ p. p;
+      over = λ f p. under-times p (under-itself (size (invE (own f))));
+      num = λ f. under-itself (size (own f));
+    }
+
+-- ---- the largest input: pairs of 3/2, the ratio 65/64, five years, every entry at its cap
+top : Input
+top =
+    let s = ofBits binary32 0x3fc00000 in
+    record {
+      cos-theta = s;
+      sin-theta = s;
+      sin-lambda = s;
+      cos-lambda = s;
+      ratio = ofBits binary32 0x3f820000;
+      offset = ofBits binary32 0x40a00000;
+      g = λ n m. main-cap;
+      h = λ n m. main-cap;
+      g-dot = λ n m. rate-cap;
+      h-dot = λ n m. rate-cap;
+      S = λ n m. schmidtAt (place n m);
+      K = λ n m. kAt (place n m);
+    }
+
+-- the units of its numbers
+tops : (ceilings .num (ofBits binary32 0x3fc00000) ≡ 1572865) × (ceilings .num (ofBits binary32 0x3f820000) ≡ 1064961) × (ceilings .num (ofBits binary32 0x40a00000) ≡ 5242881)
+    × (ceilings .num main-cap ≡ 68719476737) × (ceilings .num rate-cap ≡ 4294967297)
+unfolding ceilings upward own ofBits
+tops = (refl, refl, refl, refl, refl)
+
+slight-under : (f : Float) → Slight f → Under (sizes .num f) (ceilings .num (ofBits binary32 0x3fc00000))
+unfolding sizes
+slight-under f h = rw (tops .0) (record { units = λ o. omega arith })
+
+leaf-under : (B c : ℕ) (f : Float) → Leaf B f → B * 1048576 ≤ c → Under (sizes .num f) c
+unfolding sizes
+leaf-under B c f l h = record { units = λ o. omega (arith, l .close .size, mul-le-mul-right (own f .over) h) }
+
+-- 65/64 at most
+ratio-under : (x : Float) → T (ratio-ok x) → Under (sizes .num x) (ceilings .num (ofBits binary32 0x3f820000))
+unfolding sizes ofBits ratio-ok
+ratio-under x t =
+    let lo = fin false 7 (negsuc 2) in
+    let hi = fin false 65 (negsuc 5) in
+    let a = and-l (le lo x) (le x hi) t in
+    let b = and-r (le lo x) (le x hi) t in
+    let p = between lo x hi tt tt a b in
+    let v : num x * 64 ≤ 65 * den x = values-of-le x hi (num x) (den x) 65 64 p tt (own-value x p) (refl, refl) b in
+    rw (tops .1) (record { units = λ o. rw (own-size x, own-over x) (omega arith) })
+
+main-under : (f : Float) → Leaf 65536 f → Under (sizes .num f) (ceilings .num main-cap)
+main-under f h = rw (tops .3) (leaf-under 65536 68719476737 f h (lit≤ tt))
+
+rate-under : (f : Float) → Leaf 4096 f → Under (sizes .num f) (ceilings .num rate-cap)
+rate-under f h = rw (tops .4) (leaf-under 4096 4294967297 f h (lit≤ tt))
+
+years-under : (f : Float) → Leaf 5 f → Under (sizes .num f) (ceilings .num (ofBits binary32 0x40a00000))
+years-under f h = rw (tops .2) (leaf-under 5 5242881 f h (lit≤ tt))
+
+alike-top : (a : Lent) → Sum.Accepted a → Alike sizes ceilings Under (inputs a) top
+unfolding inputs g-at h-at top ofBits
+alike-top a w =
+    let k = under-related in
+    let o = Sum.ok a w in
+    let c = circle-slight (a .sin-theta) (a .cos-theta) (w .colatitude) in
+    let l = circle-slight (a .sin-lambda) (a .cos-lambda) (w .longitude) in
+    record {
+      cos-theta = slight-under (a .cos-theta) (c .1);
+      sin-theta = slight-under (a .sin-theta) (c .0);
+      sin-lambda = slight-under (a .sin-lambda) (l .0);
+      cos-lambda = slight-under (a .cos-lambda) (l .1);
+      ratio = ratio-under (a .ratio) (w .ratio);
+      S = λ n m. k .num _;
+      K = λ n m. k .num _;
+      g = λ n m. k .plus (main-under _ (o .g n m)) (k .times (years-under _ (o .offset)) (rate-under _ (o .g-dot n m)));
+      h = λ n m. k .plus (main-under _ (o .h n m)) (k .times (years-under _ (o .offset)) (rate-under _ (o .h-dot n m)));
+    }
+
+-- ---- what the sums come to there, computed
+within-top : (leb (x-sum ceilings top N-MAX) (2 ^ 70) ≡ true) × (leb (y-sum ceilings top N-MAX) (15 * 2 ^ 65) ≡ true) × (leb (z-sum ceilings top N-MAX) (2 ^ 70) ≡ true)
+    × (leb (pole-x ceilings top POLE-ORDERS N-MAX) (2 ^ 70) ≡ true) × (leb (pole-y ceilings top N-MAX) (2 ^ 78) ≡ true) × (leb (pole-z ceilings top POLE-ORDERS N-MAX) (2 ^ 70) ≡ true)
+unfolding ceilings upward invE own ofBits ofInt round lit schmidtAt schmidtBits kAt kBits angle pole-angle step legendre total g-at h-at gc-hs gs-hc psn dpsn power x-row y-row z-row x-sum y-sum z-sum quotient pole-gc pole-gs pole-x-row pole-z-row pole-x pole-y pole-z top
+within-top = (refl, refl, refl, refl, refl, refl)
+
+at-most : (m n : ℕ) → leb m n ≡ true → m ≤ n
+at-most m n e = leb→le m n (subst T (sym e) tt)
+
+choose : (b : Bool) {x y : Size} {c : ℕ} → (T b → Under x c) → (T (not b) → Under y c) → Under (cond b x y) c
+choose true p q = p tt
+choose false p q = q tt
+
+-- ---- the majorants of Sum, in units
+module _ (a : Lent) (w : Sum.Accepted a) where
+  x-under : Under (sum-x sizes a) (2 ^ 70)
+  x-under = choose (near-pole a) (λ t. under-more (at-most _ _ (within-top .3)) (pole-x-related sizes ceilings Under under-related (inputs a) top (alike-top a w) POLE-ORDERS N-MAX)) (λ t. under-more (at-most _ _ (within-top .0)) (x-sum-related sizes ceilings Under under-related (inputs a) top (alike-top a w) N-MAX))
+
+  z-under : Under (sum-z sizes a) (2 ^ 70)
+  z-under = choose (near-pole a) (λ t. under-more (at-most _ _ (within-top .5)) (pole-z-related sizes ceilings Under under-related (inputs a) top (alike-top a w) POLE-ORDERS N-MAX)) (λ t. under-more (at-most _ _ (within-top .2)) (z-sum-related sizes ceilings Under under-related (inputs a) top (alike-top a w) N-MAX))
+
+  -- 1 / sine is at most 1024
+  inverse-under : T (not (near-pole a)) → Under (size (invE (own (a .sin-theta)))) (2 ^ 30)
+  inverse-under t = record { units = λ o. omega (arith, Sum.sine-divides a w t .size) }
+
+  y-under : Under (sum-y sizes a) (15 * 2 ^ 75 + 1)
+  unfolding sizes
+  y-under =
+      choose (near-pole a) (λ t. under-more (le-trans (at-most _ _ (within-top .4)) (lit≤ tt)) (pole-y-related sizes ceilings Under under-related (inputs a) top (alike-top a w) N-MAX))
+      (λ t. under-times (under-more (at-most _ _ (within-top .1)) (y-sum-related sizes ceilings Under under-related (inputs a) top (alike-top a w) N-MAX)) (inverse-under t))
+
+-- ---- the majorants of Field: the turn multiplies by at most 9/2, twice
+module _ (c s cp sp : Float) (C : Slight c) (S : Slight s) (CP : Slight cp) (SP : Slight sp) {x z : Size} (X : Under x (2 ^ 70)) (Z : Under z (2 ^ 70)) where
+  three : (f : Float) → Slight f → Under (sizes .num f) 1572865
+  three f h = rw (tops .0) at (slight-under f h)
+
+  sin-under : Under (sin-turn sizes c s cp sp) (2 ^ 23)
+  unfolding sin-turn sizes
+  sin-under = under-more (lit≤ tt) (under-plus (under-times (three c C) (three cp CP)) (under-times (three s S) (three sp SP)))
+
+  cos-under : Under (cos-turn sizes c s cp sp) (2 ^ 23)
+  unfolding cos-turn sizes
+  cos-under = under-more (lit≤ tt) (under-plus (under-times (three s S) (three cp CP)) (under-times (three c C) (three sp SP)))
+
+  turn-x-under : Under (turn-x sizes c s cp sp x z) (2 ^ 75)
+  unfolding turn-x sizes
+  turn-x-under = under-more (lit≤ tt) (under-plus (under-times X cos-under) (under-times Z sin-under))
+
+  turn-z-under : Under (turn-z sizes c s cp sp x z) (2 ^ 75)
+  unfolding turn-z sizes
+  turn-z-under = under-more (lit≤ tt) (under-plus (under-times X sin-under) (under-times Z cos-under))
+
+-- ---- from a majorant in units to the test of a component
+-- the cap is 2 ^ 60
+capped-by : (f : Float) → T (finite f) → own f .plus + own f .minus ≤ 2 ^ 60 * own f .over → T (capped (ofBits binary32 0x5d800000) f)
+unfolding capped ofBits own
+capped-by nan t h = absurd t
+capped-by (inf s) t h = absurd t
+capped-by (fin false m e) t h = le-of-values (fin false m e) (fin false 1 (pos 60)) (m * up e) (down e) (2 ^ 60) 1 (down-pos e) (lit< tt) (refl, refl) (refl, refl) (omega arith)
+capped-by (fin true m e) t h = le-of-values (fin false m e) (fin false 1 (pos 60)) (m * up e) (down e) (2 ^ 60) 1 (down-pos e) (lit< tt) (refl, refl) (refl, refl) (omega arith)
+
+-- the same nearness with a sharper size
+resized : {k B E : ℕ} {f : Float} {x : Exact} (B' : ℕ) → Near k B E f x → x .plus + x .minus ≤ B' * x .over → Near k B' E f x
+resized B' m h =
+    let c = m .close in
+    record { p = m .p; q = m .q; d = m .d; is = m .is; close = record { pos = c .pos; over = c .over; size = h; plo = c .plo; phi = c .phi; qlo = c .qlo; qhi = c .qhi } }
+
+cut-units : (n b B o : ℕ) → b ≤ B * 1048576 → n * 1048576 ≤ b * o → n ≤ B * o
+cut-units n b B o h k =
+    let l : n * 1048576 ≤ B * 1048576 * o = le-trans k (mul-le-mul-right o h) in
+    let r : B * 1048576 * o ≡ B * o * 1048576 = omega arith in
+    le-of-mul-le-mul-right {k = 1048576} (subst (λ (z : ℕ). n * 1048576 ≤ z) r l) (zero-lt-suc 1048575)
+
+small : {k B E : ℕ} {f : Float} {x : Exact} {M : Size} (b B' : ℕ) → Near k B E f x → size x ≡ M → Under M b → b ≤ B' * 1048576 → Fine k B' E → 2 * suc B' ≤ 2 ^ 60 → T (capped (ofBits binary32 0x5d800000) f)
+small {f = f} {x = x} b B' m e u l F t =
+    let v : Under (size x) b = subst (λ (z : Size). Under z b) (sym e) u in
+    let s = near-size (resized B' m (cut-units (x .plus + x .minus) b B' (x .over) l (v .units (m .close .over)))) F in
+    capped-by f (s .0) (le-trans (s .1) (mul-le-mul-right (own f .over) t))
+
+all-three : (x y z : Float) → T (capped (ofBits binary32 0x5d800000) x) → T (capped (ofBits binary32 0x5d800000) y) → T (capped (ofBits binary32 0x5d800000) z)
+    → capped (ofBits binary32 0x5d800000) x && capped (ofBits binary32 0x5d800000) y && capped (ofBits binary32 0x5d800000) z ≡ true
+all-three x y z p q r =
+    let c : Float → Bool = capped (ofBits binary32 0x5d800000) in
+    is-true (c x && c y && c z) (and-i (c x && c y) (c z) (and-i (c x) (c y) p q) r)
+
+module _ (a : Asked) (e : EpochOffset) (w : Accepted a e) (l : Listed (a .g) (a .h) (a .g-dot) (a .h-dot)) where
+  abbrev given : Sum.Accepted (handed a e)
+  given = sum-accepted a e w l
+
+  pair : Slight (handed a e .sin-theta) × Slight (handed a e .cos-theta)
+  pair = circle-slight (handed a e .sin-theta) (handed a e .cos-theta) (given .colatitude)
+
+  lat : Slight (a .sin-phi) × Slight (a .cos-phi)
+  lat = circle-slight (a .sin-phi) (a .cos-phi) (latitude-circle (a .sin-phi) (a .cos-phi) (w .latitude))
+
+  field-x-under : Under (field-x sizes a e) (2 ^ 75)
+  unfolding field-x
+  field-x-under = turn-x-under (handed a e .cos-theta) (handed a e .sin-theta) (a .cos-phi) (a .sin-phi) (pair .1) (pair .0) (lat .1) (lat .0) (x-under (handed a e) given) (z-under (handed a e) given)
+
+  field-z-under : Under (field-z sizes a e) (2 ^ 75)
+  unfolding field-z
+  field-z-under = turn-z-under (handed a e .cos-theta) (handed a e .sin-theta) (a .cos-phi) (a .sin-phi) (pair .1) (pair .0) (lat .1) (lat .0) (x-under (handed a e) given) (z-under (handed a e) given)
+
+  field-y-under : Under (field-y sizes a e) (15 * 2 ^ 75 + 1)
+  unfolding field-y
+  field-y-under = y-under (handed a e) given
+
+  -- X, Y and Z can be used
+  pub record-usable : (year : ℤ) → usable (recordOf (strengthsOf a e) year) ≡ true
+  unfolding usable accA legS angS powS
+  record-usable year =
+      let x = small (2 ^ 75) (2 ^ 55) (field-x-near a e w l rounded-keeps) (field-x-image size-hom a e) field-x-under (lit≤ tt) (fine-below (fine-ok turnedA tt) (lit≤ tt) (lit≤ tt) (lit≤ tt)) (lit≤ tt) in
+      let y = small (15 * 2 ^ 75 + 1) (15 * 2 ^ 55 + 1) (field-y-near a e w l rounded-keeps) (field-y-image size-hom a e) field-y-under (lit≤ tt) (fine-below (fine-ok eastA tt) (lit≤ tt) (lit≤ tt) (lit≤ tt)) (lit≤ tt) in
+      let z = small (2 ^ 75) (2 ^ 55) (field-z-near a e w l rounded-keeps) (field-z-image size-hom a e) field-z-under (lit≤ tt) (fine-below (fine-ok turnedA tt) (lit≤ tt) (lit≤ tt) (lit≤ tt)) (lit≤ tt) in
+      all-three (field-x rounded a e) (field-y rounded a e) (field-z rounded a e) x y z
+
+-- ---- so no strength of a record that Field gave ends in 12
+pub field-usable : (a : Asked) (year day : ℤ) (v : GeomagneticField) → fieldSays a year day ≡ answered v → usable v ≡ true
+field-usable a year day v h = let f = found a year day v h in subst (λ (u : GeomagneticField). usable u ≡ true) (f .is) (record-usable a (epochOffset year day) (f .accepted) (f .lists) _)
+
+module _ (a : Asked) (year day : ℤ) (v : GeomagneticField) (h : fieldSays a year day ≡ answered v) where
+  pub strength-never-12 : (s : Float) → strengthSays v s ≡ answered s
+  unfolding strengthSays
+  strength-never-12 s = rw (field-usable a year day v h) refl
+
+  pub zone-never-12 : zoneSays v ≡ answered (zoneOf (hOf v))
+  unfolding zoneSays
+  zone-never-12 = rw (field-usable a year day v h) refl
+
+  pub uncertainty-never-12 : (of : ℤ) → knownEpoch of ≡ true → uncertaintySays v of ≡ answered (uncertaintyOf (errorModel of) (hOf v))
+  unfolding uncertaintySays
+  uncertainty-never-12 of k = rw (k, field-usable a year day v h) refl
