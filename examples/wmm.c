@@ -6,7 +6,6 @@
 #include <stdio.h>
 #include <stdlib.h>
 
-#include "njerumoy.h"
 #include "njerumoy_published.h"
 
 static const float DEGREE = 0.017453292519943295f; /* in radians */
@@ -29,20 +28,12 @@ static const char *const WORDS[] = {
     "a number cannot be used: not finite, or out of range",
 };
 
-struct set {
-    const float *g, *h, *g_dot, *h_dot;
-};
-
-static const struct set SETS[2] = {
-    {njerumoy_wmm2020_g, njerumoy_wmm2020_h, njerumoy_wmm2020_g_dot, njerumoy_wmm2020_h_dot},
-    {njerumoy_wmm2025_g, njerumoy_wmm2025_h, njerumoy_wmm2025_g_dot, njerumoy_wmm2025_h_dot},
-};
-
 /* What is printed. */
 struct shown {
     float xyz[3], errors[8], allowances[3], h, f, d, d_uncertainty, variation;
     uint32_t zone, given;
-    int32_t epoch_year;
+    const struct njerumoy_set *set;
+    int near_pole;
 };
 
 static int read_float(const char *word, float *number) {
@@ -61,27 +52,49 @@ static int read_whole(const char *word, int32_t *number) {
     return 1;
 }
 
-/* Field with the set of the day's epoch. Where the day has none, the set does not matter: Field's own
- * refusal of the day comes before it looks at the set. */
-static uint32_t field_at(float lat, float lon, float height, int32_t year, int32_t day,
-                         struct shown *s) {
-    const size_t n = NJERUMOY_LIST_LENGTH;
-    const float phi = lat * DEGREE, lambda = lon * DEGREE;
+static struct njerumoy_pair pair(float degrees) {
+    const struct njerumoy_pair p = {sinf(degrees * DEGREE), cosf(degrees * DEGREE)};
+    return p;
+}
+
+/* The set of the day's epoch. Where the day has none, the set does not matter: Field's own refusal of
+ * the day comes before it looks at the set. */
+static const struct njerumoy_set *set_of(int32_t year, int32_t day) {
+    int32_t epoch_year = 0;
+    float offset;
+    njerumoy_epoch(year, day, &epoch_year, &offset);
+    return epoch_year == NJERUMOY_WMM2020.epoch_year ? &NJERUMOY_WMM2020 : &NJERUMOY_WMM2025;
+}
+
+/* Whether Field leaves orders 2 and above out at this place. Field itself is asked, with a set of one
+ * number, g of degree 2 and order 2: the field of that is zero exactly where order 2 is left out. */
+static int near_pole(struct njerumoy_place place, int32_t year, int32_t day,
+                     const struct njerumoy_set *set) {
+    static const float none[NJERUMOY_LIST_LENGTH], one[NJERUMOY_LIST_LENGTH] = {[4] = 1.0f};
+    struct njerumoy_set order_2 = *set;
+    float xyz[3] = {0.0f, 0.0f, 0.0f}, errors[8];
     size_t entry[2];
     int32_t years[2];
-    float offset;
 
-    s->epoch_year = 2025;
-    njerumoy_epoch(year, day, &s->epoch_year, &offset);
-    const struct set *set = &SETS[s->epoch_year == 2025];
-    const uint32_t refusal = njerumoy_field(
-        height, sinf(phi), cosf(phi), sinf(lambda), cosf(lambda), year, day, s->epoch_year, set->g, n,
-        set->h, n, set->g_dot, n, set->h_dot, n, s->xyz, s->errors, entry, years);
+    order_2.g = one;
+    order_2.h = order_2.g_dot = order_2.h_dot = none;
+    njerumoy_field_with(&order_2, place, year, day, xyz, errors, entry, years);
+    return xyz[0] == 0.0f && xyz[1] == 0.0f && xyz[2] == 0.0f;
+}
+
+static uint32_t field_at(float lat, float lon, float height, int32_t year, int32_t day,
+                         struct shown *s) {
+    const struct njerumoy_place place = {height, pair(lat), pair(lon)};
+    size_t entry[2];
+    int32_t years[2];
+
+    s->set = set_of(year, day);
+    const uint32_t refusal =
+        njerumoy_field_with(s->set, place, year, day, s->xyz, s->errors, entry, years);
     if (refusal == NJERUMOY_HEIGHT) return refusal;
     /* Its refusals are Field's. */
-    njerumoy_allowance(height, sinf(phi), cosf(phi), sinf(lambda), cosf(lambda), year, day,
-                       s->epoch_year, set->g, n, set->h, n, set->g_dot, n, set->h_dot, n,
-                       s->allowances, entry, years);
+    njerumoy_allowance_with(s->set, place, year, day, s->allowances, entry, years);
+    s->near_pole = near_pole(place, year, day, s->set);
     /* A pair comes round again after a full turn, so the degrees are asked for too. */
     const uint32_t of_degrees = njerumoy_grid_variation(lat, lon, 0.0f, &s->given, &s->variation);
     return of_degrees != 0 ? of_degrees : refusal;
@@ -93,7 +106,7 @@ static uint32_t strengths(float lat, float lon, struct shown *s) {
     if (refusal == 0) refusal = njerumoy_total(x, y, z, &s->f);
     if (refusal == 0) refusal = njerumoy_zone(x, y, z, &s->zone);
     if (refusal == 0) {
-        refusal = njerumoy_declination_uncertainty(x, y, z, s->epoch_year, &s->d_uncertainty);
+        refusal = njerumoy_declination_uncertainty_with(s->set, s->xyz, &s->d_uncertainty);
     }
     s->d = atan2f(y, x) / DEGREE;
     if (refusal == 0) refusal = njerumoy_grid_variation(lat, lon, s->d, &s->given, &s->variation);
@@ -113,9 +126,12 @@ static void print(const struct shown *s) {
     printf("D  %9.2f deg +- %.2f\n", (double)s->d, (double)s->d_uncertainty);
     printf("zone   %s\n", zones[s->zone]);
     if (s->given) printf("grid   %.2f deg\n", (double)s->variation);
-    printf("epoch  %d\n", (int)s->epoch_year);
+    printf("epoch  %d\n", (int)s->set->epoch_year);
     printf("sums   X, Y, Z within %.2f, %.2f, %.2f nT of the exact sums\n", upward(s->allowances[0]),
            upward(s->allowances[1]), upward(s->allowances[2]));
+    if (s->near_pole) {
+        puts("pole   orders 2 and above are left out this near to it: up to 11 nT more in X and Y");
+    }
 }
 
 int main(int count, char **words) {

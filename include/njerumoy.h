@@ -14,6 +14,10 @@
  * float is IEEE 754 binary32. The processor rounds to nearest, and flushes no subnormal to zero
  * (leave -ffast-math out when you link). Strengths are in nanotesla, rates in nanotesla a year,
  * angles in degrees, heights in metres above the WGS 84 ellipsoid.
+ *
+ * These are the proved functions. To them a set is loose arguments: its year, and each list.
+ * njerumoy_set.h has the same calls with the set in one piece, and njerumoy_published.h the two
+ * published sets: there the lists of one epoch are not lent with the year of another by mistake.
  */
 #ifndef NJERUMOY_H
 #define NJERUMOY_H
@@ -79,6 +83,10 @@ enum {
  * errors        the error figures of the model, by NJERUMOY_ERROR_..
  * entry         of refusal 7: the list (0 g, 1 h, 2 g_dot, 3 h_dot) and the index from 0
  * years         of refusal 8: the epoch years of the day and of the set
+ *
+ * Within about 6.4 km of a pole, where the sine of the geocentric colatitude is below the float 1e-3
+ * in size, orders 2 and above are left out, as in the Rust crate world_magnetic_model: with the
+ * published sets that is up to 11 nT in X and Y, which njerumoy_allowance does not count.
  *
  * Refusals, in this order: 1, 2, 3, 4, 5, 6, 7, 8. */
 uint32_t njerumoy_field(float height, float sin_phi, float cos_phi, float sin_lambda,

@@ -1,8 +1,11 @@
-/* The two published coefficient sets, WMM2020 and WMM2025. Written by tools/published-sets.
- * They lie outside of what is proved: the library takes its set from the caller. Each list has
- * NJERUMOY_LIST_LENGTH numbers: g and h in nT, their rates in nT a year. */
+/* The two published coefficient sets, NJERUMOY_WMM2020 and NJERUMOY_WMM2025. Written by
+ * tools/published-sets. They lie outside of what is proved: the library takes its set from the
+ * caller. g and h are in nT, their rates in nT a year. The lists stand here to be named by their
+ * set alone, at the end: a set carries its year, a list does not. */
 #ifndef NJERUMOY_PUBLISHED_H
 #define NJERUMOY_PUBLISHED_H
+
+#include "njerumoy_set.h"
 
 static const float njerumoy_wmm2020_g[90] = {
     -29404.5f, -1450.7f, -2500.0f, 2982.0f, 1676.8f, 1363.9f, -2381.0f, 1236.2f, 525.7f, 903.1f,
@@ -84,6 +87,18 @@ static const float njerumoy_wmm2025_h_dot[90] = {
     0.0f, -0.0f, -0.2f, 0.1f, -0.1f, 0.1f, 0.0f, -0.1f, 0.2f, -0.0f, 0.0f, -0.0f, 0.1f, -0.0f,
     0.1f, -0.0f, -0.0f, 0.1f, -0.0f, 0.0f, 0.0f, 0.0f, 0.0f, -0.0f, 0.0f, -0.1f, 0.1f, -0.0f,
     -0.0f, -0.0f, 0.0f, -0.0f, -0.0f, 0.0f, -0.1f,
+};
+
+static const struct njerumoy_set NJERUMOY_WMM2020 = {
+    2020,
+    njerumoy_wmm2020_g, njerumoy_wmm2020_h, njerumoy_wmm2020_g_dot, njerumoy_wmm2020_h_dot,
+    90, 90, 90, 90,
+};
+
+static const struct njerumoy_set NJERUMOY_WMM2025 = {
+    2025,
+    njerumoy_wmm2025_g, njerumoy_wmm2025_h, njerumoy_wmm2025_g_dot, njerumoy_wmm2025_h_dot,
+    90, 90, 90, 90,
 };
 
 #endif

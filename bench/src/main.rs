@@ -83,8 +83,14 @@ fn rust_field(case: &FieldCase, sets: &[Both]) -> Bits {
 
 fn our_strengths(case: &Components) -> Bits {
     let [x, y, z] = *case;
-    let errors = njerumoy::Errors::default();
-    let field = Field { x, y, z, errors };
+    let (epoch_year, errors) = (2020, njerumoy::Errors::default());
+    let field = Field {
+        x,
+        y,
+        z,
+        epoch_year,
+        errors,
+    };
     let told = |k: njerumoy::Refusal| k.number();
     let zone = match field.zone().map_err(told)? {
         None => 0,

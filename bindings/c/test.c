@@ -1,10 +1,11 @@
-/* Tests of the library through its C header: answers, refusals in their order, what they carry, and
- * that a place keeps what it held where the call has no result for it. tools/test-library runs it. */
+/* Tests of the library through its C headers: answers, refusals in their order, what they carry, and
+ * that a place keeps what it held where the call has no result for it. Each question that takes a set
+ * is asked in both forms, with loose lists and with the set in one piece, and all that is told must
+ * be the same, bit for bit. tools/test-library runs it. */
 #include <math.h>
 #include <stdio.h>
 #include <string.h>
 
-#include "njerumoy.h"
 #include "njerumoy_published.h"
 
 #define N NJERUMOY_LIST_LENGTH
@@ -60,18 +61,54 @@ static struct field question(void) {
     return q;
 }
 
+static struct njerumoy_set set_of(const struct field *q) {
+    const struct njerumoy_set set = {
+        q->epoch,      q->lists[0],   q->lists[1],   q->lists[2],   q->lists[3],
+        q->lengths[0], q->lengths[1], q->lengths[2], q->lengths[3],
+    };
+    return set;
+}
+
+static struct njerumoy_place place_of(const struct field *q) {
+    const struct njerumoy_place place = {
+        q->height, {q->sin_phi, q->cos_phi}, {q->sin_lambda, q->cos_lambda}};
+    return place;
+}
+
+/* The same bits in all places that a call is lent, and in the lists. */
+static int same(const struct field *a, const struct field *b) {
+    return memcmp(a->xyz, b->xyz, sizeof a->xyz) == 0 &&
+           memcmp(a->errors, b->errors, sizeof a->errors) == 0 &&
+           memcmp(a->allowances, b->allowances, sizeof a->allowances) == 0 &&
+           memcmp(a->entry, b->entry, sizeof a->entry) == 0 &&
+           memcmp(a->years, b->years, sizeof a->years) == 0 &&
+           memcmp(a->lists, b->lists, sizeof a->lists) == 0;
+}
+
 static uint32_t ask(struct field *q) {
-    return njerumoy_field(q->height, q->sin_phi, q->cos_phi, q->sin_lambda, q->cos_lambda, q->year,
-                          q->day, q->epoch, q->lists[0], q->lengths[0], q->lists[1], q->lengths[1],
-                          q->lists[2], q->lengths[2], q->lists[3], q->lengths[3], q->xyz, q->errors,
-                          q->entry, q->years);
+    struct field b = *q;
+    const struct njerumoy_set set = set_of(&b);
+    const uint32_t with =
+        njerumoy_field_with(&set, place_of(&b), b.year, b.day, b.xyz, b.errors, b.entry, b.years);
+    const uint32_t told = njerumoy_field(
+        q->height, q->sin_phi, q->cos_phi, q->sin_lambda, q->cos_lambda, q->year, q->day, q->epoch,
+        q->lists[0], q->lengths[0], q->lists[1], q->lengths[1], q->lists[2], q->lengths[2],
+        q->lists[3], q->lengths[3], q->xyz, q->errors, q->entry, q->years);
+    CHECK(told == with && same(q, &b));
+    return told;
 }
 
 static uint32_t ask_allowance(struct field *q) {
-    return njerumoy_allowance(q->height, q->sin_phi, q->cos_phi, q->sin_lambda, q->cos_lambda,
-                              q->year, q->day, q->epoch, q->lists[0], q->lengths[0], q->lists[1],
-                              q->lengths[1], q->lists[2], q->lengths[2], q->lists[3], q->lengths[3],
-                              q->allowances, q->entry, q->years);
+    struct field b = *q;
+    const struct njerumoy_set set = set_of(&b);
+    const uint32_t with =
+        njerumoy_allowance_with(&set, place_of(&b), b.year, b.day, b.allowances, b.entry, b.years);
+    const uint32_t told = njerumoy_allowance(
+        q->height, q->sin_phi, q->cos_phi, q->sin_lambda, q->cos_lambda, q->year, q->day, q->epoch,
+        q->lists[0], q->lengths[0], q->lists[1], q->lengths[1], q->lists[2], q->lengths[2],
+        q->lists[3], q->lengths[3], q->allowances, q->entry, q->years);
+    CHECK(told == with && same(q, &b));
+    return told;
 }
 
 static int near(float x, double printed, double digit) {
@@ -165,18 +202,37 @@ static void test_field_refusals(void) {
     CHECK(refused(&q, 1));
 }
 
+/* Sum, by the question's lists. Its pair of the latitude is the colatitude's here. */
+static uint32_t ask_sum(struct field *q, float ratio, float offset) {
+    struct field b = *q;
+    const struct njerumoy_set set = set_of(&b);
+    const struct njerumoy_place place = place_of(&b);
+    const uint32_t with =
+        njerumoy_sum_with(&set, place.latitude, place.longitude, ratio, offset, b.xyz, b.entry);
+    const uint32_t told =
+        njerumoy_sum(q->cos_phi, q->sin_phi, q->sin_lambda, q->cos_lambda, ratio, offset, q->lists[0],
+                     q->lengths[0], q->lists[1], q->lengths[1], q->lists[2], q->lengths[2],
+                     q->lists[3], q->lengths[3], q->xyz, q->entry);
+    CHECK(told == with && same(q, &b));
+    return told;
+}
+
 /* One coefficient, g or h, at a colatitude and longitude 0: the papers' worked examples. */
-static uint32_t one(int list, int index, float value, float cos_theta, float sin_theta, float xyz[3]) {
-    static const float none[N];
-    float lists[2][N] = {{0}};
-    size_t entry[2];
-    lists[list][index] = value;
-    return njerumoy_sum(cos_theta, sin_theta, 0.0f, 1.0f, 1.0f, 0.0f, lists[0], N, lists[1], N, none,
-                        N, none, N, xyz, entry);
+static uint32_t one(int list, int index, float value, float cos_theta, float sin_theta,
+                    float xyz[3]) {
+    struct field q = question();
+    memset(q.lists, 0, sizeof q.lists);
+    q.lists[list][index] = value;
+    q.cos_phi = cos_theta;
+    q.sin_phi = sin_theta;
+    memcpy(q.xyz, xyz, sizeof q.xyz);
+    const uint32_t told = ask_sum(&q, 1.0f, 0.0f);
+    memcpy(xyz, q.xyz, sizeof q.xyz);
+    return told;
 }
 
 static void test_sum(void) {
-    float xyz[3];
+    float xyz[3] = {0.0f, 0.0f, 0.0f};
     CHECK(one(0, 0, -30000.0f, 0.0f, 1.0f, xyz) == 0);
     CHECK(xyz[0] == -30000.0f && xyz[1] == 0.0f && xyz[2] == 0.0f);
     CHECK(one(0, 0, -30000.0f, 1.0f, 0.0f, xyz) == 0);
@@ -187,6 +243,71 @@ static void test_sum(void) {
     CHECK(one(0, 0, 65537.0f, 0.0f, 1.0f, xyz) == 7);
     CHECK(one(0, 0, 1.0f, 0.5f, 0.5f, xyz) == 9);
     CHECK(xyz[0] == HELD && xyz[1] == HELD && xyz[2] == HELD);
+}
+
+/* Numbers that are all different, so that no two can be handed on in each other's place. */
+static void test_places_apart(void) {
+    struct field q = question();
+    q.height = 1234.5f;
+    q.sin_lambda = 0.6f;
+    q.cos_lambda = -0.8f;
+    q.day = 200;
+    CHECK(ask(&q) == 0 && ask_allowance(&q) == 0);
+    CHECK(ask_sum(&q, 0.9375f, 2.5f) == 0);
+    CHECK(ask_sum(&q, 2.5f, 0.9375f) == 10);
+    CHECK(ask_sum(&q, 0.9375f, 5.5f) == 11);
+    q.lists[2][7] = NAN;
+    CHECK(ask_sum(&q, 0.9375f, 2.5f) == 7 && q.entry[0] == 2 && q.entry[1] == 7);
+}
+
+/* Each list by itself too short. */
+static void test_lengths(void) {
+    for (int i = 0; i < 4; i++) {
+        struct field q = question();
+        q.lengths[i] = N - 1;
+        CHECK(refused(&q, 6));
+        CHECK(ask_sum(&q, 1.0f, 0.0f) == 6);
+    }
+}
+
+/* The published sets bring their own year: each answers for the days of its epoch, and is refused on
+ * the other's. */
+static void test_published(void) {
+    const struct field q = question();
+    const struct njerumoy_set *const sets[2] = {&NJERUMOY_WMM2020, &NJERUMOY_WMM2025};
+    const int32_t days[2][2] = {{2024, 366}, {2025, 1}};
+    for (int set = 0; set < 2; set++) {
+        for (int day = 0; day < 2; day++) {
+            struct field b = q;
+            const uint32_t told =
+                njerumoy_field_with(sets[set], place_of(&q), days[day][0], days[day][1], b.xyz,
+                                    b.errors, b.entry, b.years);
+            CHECK(told == (set == day ? 0u : 8u));
+            CHECK(set == day || (b.years[0] == 2020 + 5 * day && b.years[1] == 2020 + 5 * set));
+        }
+    }
+    CHECK(NJERUMOY_WMM2020.g_length == N && NJERUMOY_WMM2020.h_length == N);
+    CHECK(NJERUMOY_WMM2025.g_dot_length == N && NJERUMOY_WMM2025.h_dot_length == N);
+}
+
+/* By the figures of the set's own year, as of that year named beside the components. */
+static void test_uncertainty(void) {
+    const struct njerumoy_set *const sets[2] = {&NJERUMOY_WMM2020, &NJERUMOY_WMM2025};
+    const float fields[3][3] = {{6521.6f, 145.9f, 54791.5f}, {0.0f, 0.0f, 1.0f}, {NAN, 1.0f, 1.0f}};
+    float last = HELD;
+    for (int set = 0; set < 2; set++) {
+        for (int i = 0; i < 3; i++) {
+            const float *xyz = fields[i];
+            float u = HELD, v = HELD;
+            CHECK(njerumoy_declination_uncertainty_with(sets[set], xyz, &u) ==
+                  njerumoy_declination_uncertainty(xyz[0], xyz[1], xyz[2], 2020 + 5 * set, &v));
+            CHECK(memcmp(&u, &v, sizeof u) == 0);
+            if (i == 0) {
+                CHECK(u != last);
+                last = u;
+            }
+        }
+    }
 }
 
 static uint32_t epoch(int32_t year, int32_t day, int32_t *epoch_year, float *offset) {
@@ -259,6 +380,10 @@ int main(void) {
     test_field_refusals();
     test_allowance();
     test_sum();
+    test_places_apart();
+    test_lengths();
+    test_published();
+    test_uncertainty();
     test_epoch();
     test_strengths();
     test_grid();

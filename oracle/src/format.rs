@@ -207,7 +207,8 @@ pub fn put_int(out: &mut Vec<u8>, value: i32) {
     out.extend_from_slice(value.to_string().as_bytes());
 }
 
-fn put_floats(out: &mut Vec<u8>, floats: &[f32]) {
+/// Writes each float of a list.
+pub fn put_floats(out: &mut Vec<u8>, floats: &[f32]) {
     for x in floats {
         put_float(out, *x);
     }

@@ -34,6 +34,22 @@ pub struct WmmErrorModel {
     pub z_uncertainty: f32,
 }
 
+impl WmmErrorModel {
+    /// The eight figures, in document 01's order: sigma_c, sigma_v, I, F, H, X, Y, Z.
+    pub fn figures(&self) -> [f32; 8] {
+        [
+            self.declination_sigma_c,
+            self.declination_sigma_v,
+            self.inclination_uncertainty,
+            self.f_uncertainty,
+            self.h_uncertainty,
+            self.x_uncertainty,
+            self.y_uncertainty,
+            self.z_uncertainty,
+        ]
+    }
+}
+
 pub const WMM_ERROR_MODELS: [WmmErrorModel; NUMBER_OF_MODELS] = [
     WmmErrorModel {
         epoch_year: 2020,

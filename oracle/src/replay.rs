@@ -6,8 +6,8 @@ use crate::entries::{
 };
 use crate::field::{GeomagneticField, WarningZone};
 use crate::format::{
-    parse_case, parse_set, put_case, put_float, put_int, put_refusal, put_set, Case, MALFORMED,
-    MARK,
+    parse_case, parse_set, put_case, put_float, put_floats, put_int, put_refusal, put_set, Case,
+    MALFORMED, MARK,
 };
 use crate::models::WMM_ERROR_MODELS;
 use std::io::{self, BufRead, Write};
@@ -105,9 +105,7 @@ fn put_result(out: &mut Vec<u8>, case: &Case, set: &Set) -> Result<(), Refusal> 
             let (x_prime, y, z_prime) = sum(
                 cos_theta, sin_theta, sin_lambda, cos_lambda, ratio, offset, &set.lists,
             )?;
-            put_float(out, x_prime);
-            put_float(out, y);
-            put_float(out, z_prime);
+            put_floats(out, &[x_prime, y, z_prime]);
         }
         Case::Field {
             height,
@@ -121,9 +119,8 @@ fn put_result(out: &mut Vec<u8>, case: &Case, set: &Set) -> Result<(), Refusal> 
             let field = field(
                 height, sin_phi, cos_phi, sin_lambda, cos_lambda, year, day, set,
             )?;
-            put_float(out, field.x);
-            put_float(out, field.y);
-            put_float(out, field.z);
+            put_floats(out, &[field.x, field.y, field.z]);
+            put_floats(out, &field.error_model.figures());
         }
         Case::Epoch { year, day } => {
             let (epoch_year, offset) = epoch(year, day)?;

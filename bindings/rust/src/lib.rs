@@ -52,7 +52,8 @@ pub struct Errors {
     pub z: f32,
 }
 
-/// The field at a place and a day [nT], with the error figures of the model that answered.
+/// The field at a place and a day [nT], with the epoch year and the error figures of the model that
+/// answered.
 #[derive(Copy, Clone, Debug, PartialEq)]
 pub struct Field {
     /// North.
@@ -61,6 +62,8 @@ pub struct Field {
     pub y: f32,
     /// Down.
     pub z: f32,
+    /// The epoch year of the set, which is that of the day: 2020 or 2025.
+    pub epoch_year: i32,
     pub errors: Errors,
 }
 
@@ -107,6 +110,10 @@ fn checked(number: u32) -> Result<(), Refusal> {
 
 /// The field at a height [m], a geodetic latitude, a longitude and a day. Refusals 1, 2, 3, 4, 5, 6,
 /// 7, 8.
+///
+/// Within about 6.4 km of a pole, where the sine of the geocentric colatitude is below the f32 1e-3 in
+/// size, orders 2 and above are left out, as in the crate world_magnetic_model: with the published
+/// sets that is up to 11 nT in X and Y, which `allowance` does not count.
 #[inline]
 pub fn field(
     height: f32,
@@ -149,6 +156,7 @@ pub fn field(
         x: xyz[0],
         y: xyz[1],
         z: xyz[2],
+        epoch_year: set.epoch_year,
         errors: Errors {
             declination_sigma_c: errors[0],
             declination_sigma_v: errors[1],
@@ -290,17 +298,18 @@ impl Field {
         })
     }
 
-    /// The uncertainty of the declination [degrees] by the figures of an epoch year, whatever
-    /// `errors` holds. Refusals 5, 12.
+    /// The uncertainty of the declination [degrees], by the figures of the field's own epoch year.
+    /// Those of another edition are asked only by writing its year: `Field { epoch_year, ..field }`.
+    /// Refusals 5, 12; a field that `field` gave meets neither.
     #[inline]
-    pub fn declination_uncertainty(&self, epoch_year: i32) -> Result<f32, Refusal> {
+    pub fn declination_uncertainty(&self) -> Result<f32, Refusal> {
         let mut uncertainty = 0.0;
         checked(unsafe {
             sys::njerumoy_declination_uncertainty(
                 self.x,
                 self.y,
                 self.z,
-                epoch_year,
+                self.epoch_year,
                 &mut uncertainty,
             )
         })?;

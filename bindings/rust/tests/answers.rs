@@ -24,6 +24,7 @@ fn components(x: f32, y: f32, z: f32) -> Field {
         x,
         y,
         z,
+        epoch_year: 2025,
         errors: Errors::default(),
     }
 }
@@ -52,6 +53,36 @@ fn the_published_row() {
     };
     assert_eq!(f.errors, errors);
     assert_eq!(f.zone(), Ok(None));
+}
+
+/// Root of sigma_c and sigma_v / H, each squared, as the record's own figures give it.
+fn by_own_figures(f: &Field) -> f32 {
+    let (c, v) = (f.errors.declination_sigma_c, f.errors.declination_sigma_v);
+    let v = v / f.h().unwrap();
+    (c * c + v * v).sqrt()
+}
+
+#[test]
+fn uncertainty_of_its_own_year() {
+    let ask = |on: Day, set: &Set| field(0.0, pair(80.0), pair(0.0), on, set).unwrap();
+    let last = ask(day(2024, 366), &published::WMM2020);
+    let first = ask(FIRST_OF_2025, &published::WMM2025);
+    assert_eq!((last.epoch_year, first.epoch_year), (2020, 2025));
+    for f in [last, first] {
+        assert_eq!(f.declination_uncertainty(), Ok(by_own_figures(&f)));
+    }
+    // of another edition, by hand: the figures of 2020 for the field of 2025
+    let other = Field {
+        epoch_year: 2020,
+        ..first
+    };
+    let figures_of_2020 = Field {
+        errors: last.errors,
+        ..first
+    };
+    let asked = other.declination_uncertainty();
+    assert_eq!(asked, Ok(by_own_figures(&figures_of_2020)));
+    assert_ne!(asked, first.declination_uncertainty());
 }
 
 #[test]
@@ -181,9 +212,13 @@ fn strengths_and_zones() {
     assert_eq!(zone(1200.0, 1600.0), Ok(Some(Zone::Caution)));
     assert_eq!(zone(3600.0, 4800.0), Ok(None));
     let nowhere = components(0.0, 0.0, 50000.0);
-    assert_eq!(nowhere.declination_uncertainty(2025), Ok(180.0));
+    assert_eq!(nowhere.declination_uncertainty(), Ok(180.0));
+    let of_no_epoch = Field {
+        epoch_year: 2024,
+        ..nowhere
+    };
     assert_eq!(
-        nowhere.declination_uncertainty(2024).unwrap_err().number(),
+        of_no_epoch.declination_uncertainty().unwrap_err().number(),
         5
     );
     assert_eq!(

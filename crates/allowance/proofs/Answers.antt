@@ -2,17 +2,18 @@
 use mathlib.Core.Path.{_≡_, sym, ap, _∙_, subst}
 use lib.IntN.{ℤ}
 use lib.Ieee.{Float}
-use Rattle.refusals.specs.Paper.{Paper, answered, paper, after, paper-one, no-answer, answered-one}
+use Rattle.refusals.specs.Paper.{Paper, answered, paper, after}
+use Rattle.refusals.proofs.Laws.{paper-one, no-answer, answered-one}
 use Rattle.refusals.specs.declared.Refusal.{Refusal}
 use Rattle.models.specs.declared.epochs.EpochOffset.{EpochOffset}
 use Rattle.models.specs.Epochs.{epochSays, epochOffset}
 use Rattle.geocentric.specs.declared.Geocentric.{Geocentric}
 use Rattle.geocentric.specs.Geo.{geocentricOf, ratioOf, ratioTo}
 use Rattle.synthesis.specs.declared.Xyz.{Xyz}
-use Rattle.synthesis.specs.Code.{lent}
+use Rattle.synthesis.specs.Sum.{lent}
 use Rattle.field.specs.declared.strengths.GeomagneticField.{GeomagneticField}
 use Rattle.field.specs.Field.{Asked, field-x, field-y, field-z, fieldSays, handed}
-use Rattle.field.proofs.Answers.{after-answered, after-paper, day-found, found}
+use Rattle.field.proofs.Answers.{after-answered, day-found, found}
 use Rattle.allowance.specs.declared.Allowances.{Allowances}
 use Rattle.allowance.specs.declared.AllowanceAnswer.{AllowanceAnswer}
 use Rattle.allowance.specs.declared.AllowanceAnswer.the-variants as Answer
@@ -35,7 +36,7 @@ shown a e p q t v u x y z ep eq et ev eu ex ey ez = rw (ex, ey, ez, eu, ev, et, 
 module _ (a : Asked) (year day : ℤ) where
   pub field-refused : (k : Refusal) → paper k ≡ fieldSays a year day → paper k ≡ allowanceSays a year day
   unfolding allowanceSays
-  field-refused k h = sym (after-paper k _) ∙ ap (λ (q : Paper GeomagneticField). after q (λ v. answered (allowancesOf a (epochOffset year day)))) h
+  field-refused k h = ap (λ (q : Paper GeomagneticField). after q (λ v. answered (allowancesOf a (epochOffset year day)))) h
 
   module _ (v : GeomagneticField) (h : answered v ≡ fieldSays a year day) where
     -- Epoch does not refuse a day that Field answered for

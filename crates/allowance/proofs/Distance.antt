@@ -5,19 +5,20 @@ use native.Mathlib.Nat.{mul-le-mul-right}
 use native.Mathlib.Omega.{arith}
 use lib.IntN.{ℤ}
 use lib.Ieee.{Float}
-use Rattle.refusals.specs.Paper.{Paper, answered, after, answered-one}
+use Rattle.refusals.specs.Paper.{Paper, answered, after}
+use Rattle.refusals.proofs.Laws.{answered-one}
 use Rattle.exact.specs.Exact.{Exact, Size, own}
-use Rattle.exact.specs.Within.{Within}
+use Rattle.exact.specs.Within.{FINE, Within, distance}
 use Rattle.models.specs.declared.epochs.EpochOffset.{EpochOffset}
 use Rattle.models.specs.Epochs.{epochOffset}
-use Rattle.synthesis.specs.Arithmetic.{rounded, unrounded}
+use Rattle.sums.specs.Arithmetic.{rounded, unrounded}
 use Rattle.synthesis.proofs.Checked.{Listed}
 use Rattle.field.specs.declared.strengths.GeomagneticField.{GeomagneticField}
-use Rattle.field.specs.Field.{Accepted, Asked, field-x, field-y, field-z, fieldSays, recordOf, strengthsOf}
+use Rattle.field.specs.Field.{FieldAccepted, Asked, field-x, field-y, field-z, fieldSays, recordOf, strengthsOf}
 use Rattle.field.proofs.Laws.{close}
 use Rattle.field.proofs.Answers.{found}
 use Rattle.allowance.specs.declared.Allowances.{Allowances}
-use Rattle.allowance.specs.Bounds.{Covers, allowance, allowed, bounds}
+use Rattle.allowance.specs.Bounds.{Covers, LEAST, allowed, bounds}
 use Rattle.allowance.specs.Allowance.{allowancesOf, allowanceSays}
 use Rattle.allowance.proofs.Laws.{covers-x, covers-y, covers-z}
 
@@ -27,22 +28,24 @@ pub record Reaches (s f : Float) (x : Exact) : Type 0 where
   pub below : (own f .minus * x .over + x .plus * own f .over) * own s .over ≤ (own f .plus * x .over + x .minus * own f .over) * own s .over + own s .plus * (own f .over * x .over)
 
 -- with A - B the one difference or the other, fo and so the denominators of f and s
-one-side : (A B N O fo so sp : ℕ) → A * 1048576 ≤ B * 1048576 + 8 * N * fo + fo * O → allowance N O * so ≤ sp * 1048576 * O → A * so ≤ B * so + sp * (fo * O)
-one-side A B N O fo so sp h k = go (A * so) (B * so) (allowance N O * so * fo) (sp * (fo * O)) (omega (arith, mul-le-mul-right so h)) (omega (arith, mul-le-mul-right fo k))
+one-side : (A B N O fo so sp : ℕ) → A * FINE ≤ B * FINE + distance N O * fo → LEAST * (distance N O * so) ≤ 100 * (sp * FINE * O) → A * so ≤ B * so + sp * (fo * O)
+one-side A B N O fo so sp h k = go (A * so) (B * so) (distance N O * so * fo) (sp * (fo * O)) (omega (arith, mul-le-mul-right so h)) (omega (arith, mul-le-mul-right fo k))
   where
-    go : (a b y z : ℕ) → a * 1048576 ≤ b * 1048576 + y → y ≤ z * 1048576 → a ≤ b + z
+    go : (a b y z : ℕ) → a * FINE ≤ b * FINE + y → LEAST * y ≤ 100 * (z * FINE) → a ≤ b + z
     go a b y z h k = omega arith
 
 -- what covers the allowance of demand 3 reaches as far as what lies within it
 pub reaches : (s f : Float) (x : Exact) (M : Size) → Covers s M → Within f x M → Reaches s f x
 reaches s f x M c w =
-    let k : allowance (M .num) (x .over) * own s .over ≤ own s .plus * 1048576 * x .over = subst (λ (o : ℕ). allowance (M .num) o * own s .over ≤ own s .plus * 1048576 * o) (w .same-over) (c .at-least) in
+    let above = subst (λ (o : ℕ). (own f .plus * x .over + x .minus * own f .over) * FINE ≤ (own f .minus * x .over + x .plus * own f .over) * FINE + distance (M .num) o * own f .over) (w .same-over) (w .above) in
+    let below = subst (λ (o : ℕ). (own f .minus * x .over + x .plus * own f .over) * FINE ≤ (own f .plus * x .over + x .minus * own f .over) * FINE + distance (M .num) o * own f .over) (w .same-over) (w .below) in
+    let k = subst (λ (o : ℕ). LEAST * (distance (M .num) o * own s .over) ≤ 100 * (own s .plus * FINE * o)) (w .same-over) (c .at-least) in
     record {
-      above = one-side (own f .plus * x .over + x .minus * own f .over) (own f .minus * x .over + x .plus * own f .over) (M .num) (x .over) (own f .over) (own s .over) (own s .plus) (w .above) k;
-      below = one-side (own f .minus * x .over + x .plus * own f .over) (own f .plus * x .over + x .minus * own f .over) (M .num) (x .over) (own f .over) (own s .over) (own s .plus) (w .below) k;
+      above = one-side (own f .plus * x .over + x .minus * own f .over) (own f .minus * x .over + x .plus * own f .over) (M .num) (x .over) (own f .over) (own s .over) (own s .plus) above k;
+      below = one-side (own f .minus * x .over + x .plus * own f .over) (own f .plus * x .over + x .minus * own f .over) (M .num) (x .over) (own f .over) (own s .over) (own s .plus) below k;
     }
 
-module _ (a : Asked) (e : EpochOffset) (w : Accepted a e) (l : Listed (a .g) (a .h) (a .g-dot) (a .h-dot)) where
+module _ (a : Asked) (e : EpochOffset) (w : FieldAccepted a e) (l : Listed (a .g) (a .h) (a .g-dot) (a .h-dot)) where
   pub reaches-x : Reaches (allowed (field-x bounds a e)) (field-x rounded a e) (field-x unrounded a e)
   reaches-x = reaches (allowed (field-x bounds a e)) (field-x rounded a e) (field-x unrounded a e) _ (covers-x a e w l) (close a e w l .x)
 

@@ -9,11 +9,11 @@ use lib.Ieee.Positive.{num, den}
 use lib.Ieee.Scale.{finite}
 use Rattle.exact.specs.Tests.{abs}
 use Rattle.exact.specs.Exact.{invE, own}
-use Rattle.exact.specs.Near.{finite-is, near-own}
-use Rattle.exact.specs.Ranks.{Leaf, nr-add, nr-mul}
-use Rattle.exact.specs.Sizes.{AtMost, own-over, own-size}
-use Rattle.synthesis.specs.Arithmetic.{rounded, unrounded}
-use Rattle.synthesis.specs.Keeps.{Divides, Keeps, nr-div}
+use Rattle.exact.proofs.Near.{finite-is, near-own}
+use Rattle.exact.proofs.Ranks.{Leaf, nr-add, nr-mul}
+use Rattle.exact.proofs.Sizes.{AtMost, own-over, own-size}
+use Rattle.sums.specs.Arithmetic.{rounded, unrounded}
+use Rattle.sums.proofs.Keeps.{Divides, Keeps, nr-div}
 use Rattle.allowance.specs.Bounds.{absolutes, bounds}
 
 -- ---- the size of a float: finite where the float is, and as large

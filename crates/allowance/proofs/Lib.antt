@@ -10,3 +10,4 @@ pub mod Shown
 pub mod Laws
 pub mod Distance
 pub mod Answers
+pub mod Unique

@@ -5,7 +5,7 @@ use Prim.Native.Nat.{ℕ, zero, suc, _+_, _-_, _*_, _/_, _%_, _^_, compare}
 use lib.Dec.{ltb}
 use lib.Ieee.{Float, Format, prec, emax, low, inf, binary32, nearest, odd, size, units, ofInt, ofBits, round}
 use Rattle.exact.specs.Tests.{abs}
-use Rattle.synthesis.specs.Recurrence.{lit}
+use Rattle.sums.specs.Recurrence.{lit}
 use Rattle.synthesis.proofs.GeneralSum.{lit-zero, lit-one}
 
 odd-size : (d q k l : ℕ) → abs (odd d false q k l) ≡ odd d false q k l

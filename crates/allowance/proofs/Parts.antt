@@ -7,8 +7,9 @@ use lib.Ieee.{Float, nan, binary32, add, mul}
 use Rattle.exact.specs.Tests.{abs}
 use Rattle.tables.specs.Degree.{M-LEN, N-COEFF, place}
 use Rattle.tables.specs.Tables.{schmidtAt}
-use Rattle.synthesis.specs.Recurrence.{coefficient, dpsn, g-at, h-at, legendre, psn}
-use Rattle.synthesis.specs.Sum.{at, inputs}
+use Rattle.sums.specs.Recurrence.{coefficient, dpsn, legendre, psn}
+use Rattle.sums.specs.Paths.{at, placed}
+use Rattle.synthesis.specs.Sum.{inputs}
 use Rattle.synthesis.proofs.GeneralSum.{at-read}
 use Rattle.allowance.specs.declared.Point.{Point}
 use Rattle.allowance.specs.declared.angles.SinCos.{SinCos}
@@ -22,11 +23,11 @@ pub parts-are : (q : Point) (g h gd hd : List Float) (n m k : ℕ) (u : SinCos) 
     → s ≡ abs (schmidtAt (place n m))
     → gt ≡ coefficient bounds (abs (getD g k nan)) (abs (getD gd k nan)) (abs (q .offset))
     → ht ≡ coefficient bounds (abs (getD h k nan)) (abs (getD hd k nan)) (abs (q .offset))
-    → r ≡ pdp (legendre bounds (inputs (lentAt q g h gd hd)) n m)
+    → r ≡ pdp (legendre bounds (inputs bounds (lentAt q g h gd hd)) n m)
     → _≡_ {A = Parts}
     (record { gc = add binary32 (mul binary32 gt (u .cos)) (mul binary32 ht (u .sin)); gs = add binary32 (mul binary32 gt (u .sin)) (mul binary32 ht (u .cos)); ps = mul binary32 s (r .p); dps = mul binary32 s (r .dp) })
     (partsOf (lentAt q g h gd hd) n m (pairOf u))
-unfolding partsOf inputs g-at h-at psn dpsn bounds
+unfolding partsOf inputs placed psn dpsn bounds
 parts-are q g h gd hd n m k u s gt ht r z hn hm ek L es eg eh er =
     let read : (l : List Float) → length l ≡ N-COEFF → getD l k nan ≡ at l n m = λ l e. at-read l n m k e z hn hm ek in
     rw (es, eg, eh, er, read g (L .g-long), read h (L .h-long), read gd (L .gd-long), read hd (L .hd-long))

@@ -5,13 +5,14 @@ use native.Mathlib.Nat.{le-trans, mul-le-mul-left, mul-le-mul-right, le-of-mul-l
 use native.Mathlib.Omega.{arith}
 use lib.Dec.{lit≤}
 use lib.Ieee.{Float, binary32, ofBits, add, mul}
-use Rattle.exact.specs.Frac.{by-le}
+use Rattle.exact.proofs.Frac.{by-le}
 use Rattle.exact.specs.Exact.{Exact, Size, addE, mulE, own}
-use Rattle.exact.specs.Near.{near-own}
-use Rattle.exact.specs.Ranks.{Abs, Leaf, Nr, addA, fine-ok, leafA, mulA, nr-add, nr-mul}
-use Rattle.exact.specs.Reach.{near-size}
-use Rattle.exact.specs.Relative.{Relative, relative}
-use Rattle.allowance.specs.Bounds.{Covers, MOST, allowance, allowed}
+use Rattle.exact.specs.Within.{FINE, distance}
+use Rattle.exact.proofs.Near.{near-own}
+use Rattle.exact.proofs.Ranks.{Abs, Leaf, Nr, addA, fine-ok, leafA, mulA, nr-add, nr-mul}
+use Rattle.exact.proofs.Reach.{near-size}
+use Rattle.exact.proofs.Relative.{Relative, relative}
+use Rattle.allowance.specs.Bounds.{Covers, LEAST, MOST, allowed}
 use Rattle.allowance.proofs.Wholly.{wholly}
 
 -- ---- the three constants
@@ -38,7 +39,7 @@ scale-leaf = near-own tt (lit≤ tt)
 
 -- ---- the bounds: of the majorant, of the sum before the last product, and of its float as it stands
 abbrev pub topA : Abs
-topA = record { rank = 111; size = 2 ^ 120; slack = 2 ^ 120 }
+topA = record { rank = 121; size = 2 ^ 120; slack = 2 ^ 128 }
 
 abbrev partA : Abs
 partA = mulA topA (leafA 2)
@@ -89,30 +90,30 @@ scaled-is n t = λ j. record { plus = scaled-plus n j; minus = scaled-minus n j;
 
 -- ---- the two sides, from the two roundings: g = n / t near the sum, f = a / c near g·2 ^ -17
 module _ (N D n t a c : ℕ) (T : 0 < t) where
-  at-least : 32767 * (plusOf N D * t) ≤ 32768 * (n * overOf D) → 32767 * (n * c) ≤ 32768 * (a * (t * 131072)) → allowance N D * c ≤ a * 1048576 * D
+  at-least : 32767 * (plusOf N D * t) ≤ 32768 * (n * overOf D) → 32767 * (n * c) ≤ 32768 * (a * (t * 131072)) → LEAST * (distance N D * c) ≤ 100 * (a * FINE * D)
   at-least g f =
       le-of-mul-le-mul-right (by-le (go (N * t * c) (D * t * c) (n * D * c) (a * t * D) (omega (arith, mul-le-mul-right c g)) (omega (arith, mul-le-mul-right D f))) (r1 N D t c) (r2 a D t)) T
     where
-      go : (u v z r : ℕ) → 32767 * (u * 17246978048 + v * 2157791488) ≤ 32768 * (z * 17179869184) → 32767 * z ≤ 32768 * (r * 131072) → allowance u v ≤ 1048576 * r
+      go : (u v z r : ℕ) → 32767 * (u * 17246978048 + v * 2157791488) ≤ 32768 * (z * 17179869184) → 32767 * z ≤ 32768 * (r * 131072) → LEAST * distance u v ≤ 100 * (FINE * r)
       go u v z r g f = omega arith
 
-      r1 : (N D t c : ℕ) → allowance N D * c * t ≡ allowance (N * t * c) (D * t * c)
+      r1 : (N D t c : ℕ) → LEAST * (distance N D * c) * t ≡ LEAST * distance (N * t * c) (D * t * c)
       r1 N D t c = omega arith
 
-      r2 : (a D t : ℕ) → 1048576 * (a * t * D) ≡ a * 1048576 * D * t
+      r2 : (a D t : ℕ) → 100 * (FINE * (a * t * D)) ≡ 100 * (a * FINE * D) * t
       r2 a D t = omega arith
 
-  at-most : 32768 * (n * overOf D) ≤ 32769 * (plusOf N D * t) → 32768 * (a * (t * 131072)) ≤ 32769 * (n * c) → 100 * (a * 1048576 * D) ≤ MOST * (allowance N D * c)
+  at-most : 32768 * (n * overOf D) ≤ 32769 * (plusOf N D * t) → 32768 * (a * (t * 131072)) ≤ 32769 * (n * c) → 100 * (a * FINE * D) ≤ MOST * (distance N D * c)
   at-most g f =
       le-of-mul-le-mul-right (by-le (go (N * t * c) (D * t * c) (n * D * c) (a * t * D) (omega (arith, mul-le-mul-right c g)) (omega (arith, mul-le-mul-right D f))) (r1 a D t) (r2 N D t c)) T
     where
-      go : (u v z r : ℕ) → 32768 * (z * 17179869184) ≤ 32769 * (u * 17246978048 + v * 2157791488) → 32768 * (r * 131072) ≤ 32769 * z → 100 * (1048576 * r) ≤ MOST * allowance u v
+      go : (u v z r : ℕ) → 32768 * (z * 17179869184) ≤ 32769 * (u * 17246978048 + v * 2157791488) → 32768 * (r * 131072) ≤ 32769 * z → 100 * (FINE * r) ≤ MOST * distance u v
       go u v z r g f = omega arith
 
-      r1 : (a D t : ℕ) → 100 * (a * 1048576 * D) * t ≡ 100 * (1048576 * (a * t * D))
+      r1 : (a D t : ℕ) → 100 * (a * FINE * D) * t ≡ 100 * (FINE * (a * t * D))
       r1 a D t = omega arith
 
-      r2 : (N D t c : ℕ) → MOST * allowance (N * t * c) (D * t * c) ≡ MOST * (allowance N D * c) * t
+      r2 : (N D t c : ℕ) → MOST * distance (N * t * c) (D * t * c) ≡ MOST * (distance N D * c) * t
       r2 N D t c = omega arith
 
 -- the sum is at least 1 / 8, and so its float at least 1 / 16
@@ -175,6 +176,7 @@ module _ (b : Float) (M : Size) (m : Nr topA b (wholly M)) where
       let t = sum-leaf .close .over in
       record {
         is-finite = shown-relative .is-finite;
+        some-over = m .close .over;
         no-minus = shown-relative .no-minus;
         at-least = at-least (M .num) (M .over) (own summed .plus) (own summed .over) (own (allowed b) .plus) (own (allowed b) .over) t (sum-relative .low) (shown-relative .low);
         at-most = at-most (M .num) (M .over) (own summed .plus) (own summed .over) (own (allowed b) .plus) (own (allowed b) .over) t (sum-relative .high) (shown-relative .high);

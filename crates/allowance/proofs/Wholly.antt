@@ -6,8 +6,8 @@ use mathlib.Core.Bool.{true, false}
 use lib.Ieee.{Float, nan, inf, fin, up, down}
 use Rattle.exact.specs.Tests.{abs}
 use Rattle.exact.specs.Exact.{Exact, Size, addE, invE, mulE, own, size}
-use Rattle.synthesis.specs.Arithmetic.{plusS, sizes, timesS}
-use Rattle.synthesis.specs.Majorant.{Hom}
+use Rattle.sums.specs.Arithmetic.{plusS, sizes, timesS}
+use Rattle.sums.proofs.Images.{Hom}
 use Rattle.allowance.specs.Bounds.{absolutes}
 
 -- a size as an exact number

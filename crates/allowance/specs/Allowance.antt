@@ -4,7 +4,7 @@ use lib.IntN.{ℤ}
 use Rattle.refusals.specs.Paper.{Paper, answered, paper, after}
 use Rattle.models.specs.declared.epochs.EpochOffset.{EpochOffset}
 use Rattle.models.specs.Epochs.{epochOffset}
-use Rattle.synthesis.specs.Arithmetic.{sizes}
+use Rattle.sums.specs.Arithmetic.{sizes}
 use Rattle.field.specs.Field.{Asked, field-x, field-y, field-z, fieldSays}
 use Rattle.allowance.specs.declared.Allowances.{Allowances}
 use Rattle.allowance.specs.declared.AllowanceAnswer.{AllowanceAnswer}

@@ -6,10 +6,10 @@ use lib.ListN.{length}
 use lib.Ieee.{Float}
 use Rattle.tables.specs.Degree.{N-COEFF}
 use Rattle.synthesis.specs.declared.Xyz.{Xyz}
-use Rattle.synthesis.specs.Arithmetic.{Pair, pair}
-use Rattle.synthesis.specs.Recurrence.{down, dpsn, g-at, gc, gs, h-at, pole-east, pole-gs, pole-x, pole-x-row, pole-y, pole-z, pole-z-row, psn, quotient, x-row, x-sum, x-term, y-row, y-sum, y-term, z-row, z-sum, z-term}
-use Rattle.synthesis.specs.Sum.{Lent, POLE-ORDERS, inputs, sum-x, sum-y, sum-z}
-use Rattle.synthesis.specs.Code.{lent}
+use Rattle.sums.specs.Arithmetic.{Pair, pair}
+use Rattle.sums.specs.Recurrence.{downward, dpsn, gc, gs, pole-east, pole-gs, pole-x, pole-x-row, pole-y, pole-z, pole-z-row, psn, quotient, x-row, x-sum, x-term, y-row, y-sum, y-term, z-row, z-sum, z-term}
+use Rattle.synthesis.specs.Sum.{Lent, inputs, lent, sum-x, sum-y, sum-z}
+use Rattle.sums.specs.Paths.{POLE-ORDERS}
 use Rattle.field.specs.Turn.{turn-x, turn-z}
 use Rattle.allowance.specs.declared.Point.{Point}
 use Rattle.allowance.specs.declared.angles.SinCos.{SinCos}
@@ -45,10 +45,10 @@ pub record Long (g h gd hd : List Float) : Type 0 where
 -- what the terms of degree n and order m are made of, u the pair of the order's angle
 unfoldable pub partsOf : Lent → ℕ → ℕ → Pair Float → Parts
 partsOf a n m u =
-    let i = inputs a in
+    let i = inputs bounds a in
     record {
-      gc = gc bounds (g-at bounds i n m) (h-at bounds i n m) u;
-      gs = gs bounds (g-at bounds i n m) (h-at bounds i n m) u;
+      gc = gc bounds (i .g n m) (i .h n m) u;
+      gs = gs bounds (i .g n m) (i .h n m) u;
       ps = psn bounds i n m;
       dps = dpsn bounds i n m;
     }
@@ -59,35 +59,35 @@ plusOf a b = record { x = bounds .plus (a .x) (b .x); y = bounds .plus (a .y) (b
 
 -- the part of degree n in the sums, from the sums over its orders
 unfoldable pub degreeOf : ℕ → Float → Xyz → Xyz
-degreeOf n power a = record { x = bounds .times power (a .x); y = bounds .times power (a .y); z = down bounds n power (a .z) }
+degreeOf n power a = record { x = bounds .times power (a .x); y = bounds .times power (a .y); z = downward bounds n power (a .z) }
 
 -- ---- the general path
 -- the terms of degree n and order m
 abbrev pub termsOf : Lent → ℕ → ℕ → Xyz
-termsOf a n m = record { x = x-term bounds (inputs a) n m; y = y-term bounds (inputs a) n m; z = z-term bounds (inputs a) n m }
+termsOf a n m = record { x = x-term bounds (inputs bounds a) n m; y = y-term bounds (inputs bounds a) n m; z = z-term bounds (inputs bounds a) n m }
 
 -- the sums of degree n over its orders
 abbrev pub rowSums : Lent → ℕ → Xyz
-rowSums a n = record { x = x-row bounds (inputs a) n; y = y-row bounds (inputs a) n; z = z-row bounds (inputs a) n }
+rowSums a n = record { x = x-row bounds (inputs bounds a) n; y = y-row bounds (inputs bounds a) n; z = z-row bounds (inputs bounds a) n }
 
 -- the sums over the degrees 1 to N
 abbrev pub general : Lent → ℕ → Xyz
-general a N = record { x = x-sum bounds (inputs a) N; y = y-sum bounds (inputs a) N; z = z-sum bounds (inputs a) N }
+general a N = record { x = x-sum bounds (inputs bounds a) N; y = y-sum bounds (inputs bounds a) N; z = z-sum bounds (inputs bounds a) N }
 
 -- ---- the near-pole path
 -- the part of degree j + 1 in the sums
 unfoldable pub poleDegree : Lent → ℕ → Float → Xyz
 poleDegree a j power =
-    let i = inputs a in
+    let i = inputs bounds a in
     record {
       x = bounds .times power (pole-x-row bounds i POLE-ORDERS (suc j));
       y = pole-east bounds power (pole-gs bounds i (suc j) 1) (quotient bounds i (suc j)) (bounds .num (i .S (suc j) 1));
-      z = down bounds (suc j) power (pole-z-row bounds i POLE-ORDERS (suc j));
+      z = downward bounds (suc j) power (pole-z-row bounds i POLE-ORDERS (suc j));
     }
 
 -- the sums over the degrees 1 to N
 abbrev pub nearPole : Lent → ℕ → Xyz
-nearPole a N = record { x = pole-x bounds (inputs a) POLE-ORDERS N; y = pole-y bounds (inputs a) N; z = pole-z bounds (inputs a) POLE-ORDERS N }
+nearPole a N = record { x = pole-x bounds (inputs bounds a) POLE-ORDERS N; y = pole-y bounds (inputs bounds a) N; z = pole-z bounds (inputs bounds a) POLE-ORDERS N }
 
 -- ---- after the sums
 -- the majorants of Sum's three components

@@ -10,7 +10,7 @@ use synthesis::Xyz;
 ghost use mathlib.Core.Path.{_≡_};
 ghost use Prim.Native.Nat.{_+_, _<_};
 ghost use Rattle.tables.specs.Degree.{N-MAX};
-ghost use Rattle.synthesis.specs.Recurrence.{quotient};
+ghost use Rattle.sums.specs.Recurrence.{quotient};
 ghost use Rattle.synthesis.specs.Sum.{Lent, inputs};
 ghost use Rattle.allowance.specs.Bounds.{bounds};
 ghost use Rattle.allowance.specs.Code.{Long, lentAt, nearPole, poleDegree};
@@ -18,7 +18,7 @@ ghost use Rattle.allowance.specs.Code.{Long, lentAt, nearPole, poleDegre
 // Q of degree j + 1.
 pub fn quotient_of(j: usize, cos_theta: f32) -> f32
     requires { ⌜ j < N-MAX ⌝ }
-    ensures { λ r. ⌜ ((a : Lent) → «cos_theta» ≡ a .cos-theta → r ≡ quotient bounds (inputs a) (j + 1)) ⌝ }
+    ensures { λ r. ⌜ ((a : Lent) → «cos_theta» ≡ a .cos-theta → r ≡ quotient bounds (inputs bounds a) (j + 1)) ⌝ }
 {
     let c = float32::abs(cos_theta);
     let ks = tables::k_table();

@@ -3,7 +3,7 @@ ghost use mathlib.Core.Path.{_≡_};
 ghost use mathlib.Core.Logic.{_⊎_};
 ghost use Prim.Native.Nat.{_<_, _≤_};
 ghost use Rattle.tables.specs.Degree.{M-LEN, N-LEGENDRE, place};
-ghost use Rattle.synthesis.specs.Recurrence.{legendre, step};
+ghost use Rattle.sums.specs.Recurrence.{legendre, step};
 ghost use Rattle.synthesis.specs.Sum.{Lent, inputs};
 ghost use Rattle.allowance.specs.Bounds.{bounds};
 ghost use Rattle.allowance.specs.Code.{pdp, qp};
@@ -68,7 +68,7 @@ pub fn gauss_norm_p_dp(
 // From degree 0 to degree n: down the diagonal to order m, then along its column.
 pub fn p_dp(n: usize, m: usize, cos_theta: f32, sin_theta: f32) -> PDp
     requires { ⌜ (n < M-LEN) × (m ≤ n) ⌝ }
-    ensures { λ r. ⌜ ((a : Lent) → «cos_theta» ≡ a .cos-theta → «sin_theta» ≡ a .sin-theta → r ≡ pdp (legendre bounds (inputs a) n m)) ⌝ }
+    ensures { λ r. ⌜ ((a : Lent) → «cos_theta» ≡ a .cos-theta → «sin_theta» ≡ a .sin-theta → r ≡ pdp (legendre bounds (inputs bounds a) n m)) ⌝ }
 {
     let c = float32::abs(cos_theta);
     let s = float32::abs(sin_theta);

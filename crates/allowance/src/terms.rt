@@ -7,7 +7,7 @@ ghost use mathlib.Core.Path.{_≡_};
 ghost use Prim.Native.Nat.{_<_, _≤_};
 ghost use Rattle.exact.specs.Tests.{abs};
 ghost use Rattle.tables.specs.Degree.{M-LEN};
-ghost use Rattle.synthesis.specs.Recurrence.{coefficient};
+ghost use Rattle.sums.specs.Recurrence.{coefficient};
 ghost use Rattle.allowance.specs.Bounds.{bounds};
 ghost use Rattle.allowance.specs.Code.{Long, lentAt, pairOf, partsOf};
 

@@ -1,1 +1,1 @@
-// Exact numbers and the distance of a float from one: definitions and laws, no code. See specs/.
+// Exact numbers and the distance of a float from one: definitions and laws, no code. The definitions stand in specs/, the laws in proofs/.

@@ -1,3 +1,5 @@
--- What the proofs of the entries share.
+-- What the proofs of the entries share; then that each contract leaves one result, and what a returned 0 means.
 mod Refused
 mod Answered
+pub mod Unique
+pub mod Distance

@@ -1,6 +1,6 @@
 // Epoch.
-use crate::refuse::number;
 use models::EpochAnswer;
+use refusals::number;
 ghost use mathlib.Core.Path.{_≡_};
 ghost use Rattle.models.specs.Epochs.{epochSays};
 ghost use Rattle.ffi.specs.Told.{numberOf, result, yearOf, offsetOf};

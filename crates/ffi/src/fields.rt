@@ -1,11 +1,11 @@
 // Field and Allowance.
 use crate::refuse::note_entry;
 use crate::refuse::note_years;
-use crate::refuse::number;
 use allowance::AllowanceAnswer;
 use field::FieldAnswer;
 use field::Latitude;
 use refusals::Day;
+use refusals::number;
 use synthesis::Longitude;
 ghost use mathlib.Core.Path.{_≡_};
 ghost use Rattle.field.specs.Field.{asked, fieldSays};

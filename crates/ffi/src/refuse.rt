@@ -1,35 +1,10 @@
-// A refusal as its number, and the places for what it carries. The limits of 1 and the days of 5 are
-// always the same, so they have no place.
+// The places for what a refusal carries. The limits of 1 and the days of 5 are always the same, so they
+// have no place.
 use refusals::Refusal;
 ghost use mathlib.Core.Path.{_≡_};
 ghost use Prim.Native.Nat.{ℕ};
 ghost use Rattle.refusals.specs.Paper.{paper};
-ghost use Rattle.ffi.specs.Told.{numberOf, entryPlace, yearsPlace};
-
-pub fn number(k: Refusal) -> u32
-    ensures { λ r. ⌜ r ≡ numberOf (paper {A = ℕ} k) ⌝ }
-{
-    match k {
-        Refusal::Height {
-            min_km: _,
-            max_km: _,
-        } => 1,
-        Refusal::Latitude => 2,
-        Refusal::Longitude => 3,
-        Refusal::DayOfYear => 4,
-        Refusal::EpochYear { first: _, last: _ } => 5,
-        Refusal::Length => 6,
-        Refusal::Coefficient { list: _, index: _ } => 7,
-        Refusal::OtherEpoch {
-            of_day: _,
-            of_set: _,
-        } => 8,
-        Refusal::Colatitude => 9,
-        Refusal::Ratio => 10,
-        Refusal::Offset => 11,
-        Refusal::Unusable => 12,
-    }
-}
+ghost use Rattle.ffi.specs.Told.{entryPlace, yearsPlace};
 
 // The list and the index of refusal 7.
 pub fn note_entry(k: Refusal, entry: &mut [usize; 2])

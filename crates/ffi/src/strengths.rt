@@ -1,11 +1,11 @@
 // The strengths over three components, grid variation, and the square root.
-use crate::refuse::number;
 use field::GeomagneticField;
 use field::GridAnswer;
 use field::StrengthAnswer;
 use field::ZoneAnswer;
 use float32::RootAnswer;
 use models::WmmErrorModel;
+use refusals::number;
 ghost use mathlib.Core.Path.{_≡_};
 ghost use Rattle.float32.specs.Answer.{rootSays};
 ghost use Rattle.field.specs.Strengths.{hOf, fOf, strengthSays, zoneSays, uncertaintySays};

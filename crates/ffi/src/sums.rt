@@ -1,12 +1,11 @@
 // Sum.
 use crate::refuse::note_entry;
-use crate::refuse::number;
+use refusals::number;
 use synthesis::Colatitude;
 use synthesis::Longitude;
 use synthesis::SumAnswer;
 ghost use mathlib.Core.Path.{_≡_};
-ghost use Rattle.synthesis.specs.Sum.{sumSays};
-ghost use Rattle.synthesis.specs.Code.{lent};
+ghost use Rattle.synthesis.specs.Sum.{lent, sumSays};
 ghost use Rattle.ffi.specs.Told.{numberOf, result, entryPlace, sumFloats};
 
 #[no_mangle]

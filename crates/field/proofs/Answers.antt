@@ -10,28 +10,28 @@ use lib.Ieee.{Float, binary32, ofBits, neg, le}
 use mir.Syntax.{w32}
 use mir.Val.{SFits, ofZ, toZ}
 use mir.ValLaws.{toZ-ofZ}
-use Rattle.refusals.specs.Paper.{Paper, answered, refused, paper, unless, after, passed, paper-one, no-answer, answered-one, told, told-refused, told-accepted}
+use Rattle.refusals.specs.Paper.{Paper, answered, refused, paper, unless, after, told}
+use Rattle.refusals.proofs.Laws.{passed, paper-one, no-answer, answered-one, told-refused, told-accepted}
 use Rattle.refusals.specs.declared.Verdict.{Verdict}
 use Rattle.refusals.specs.declared.Verdict.the-variants as Verdict
 use Rattle.refusals.specs.declared.Refusal.{Refusal}
-use Rattle.refusals.specs.declared.Refusal.the-variants.{Height, Latitude, Longitude, DayOfYear, EpochYear, Length, Coefficient, OtherEpoch, Colatitude, Ratio, Offset, Unusable}
+use Rattle.refusals.specs.declared.Refusal.the-variants.{Height, Latitude, Longitude, DayOfYear, OtherEpoch}
 use Rattle.models.specs.declared.epochs.EpochOffset.{EpochOffset}
 use Rattle.models.specs.declared.errors.WmmErrorModel.{WmmErrorModel}
-use Rattle.models.specs.Epochs.{wrongEpoch, dayExists, epochYear, epochSays, epochOffset, knownEpoch}
+use Rattle.models.specs.Epochs.{unknownEpoch, wrongEpoch, dayExists, epochYear, epochSays, epochOffset, knownEpoch}
 use Rattle.models.specs.Errors.{errorModel, errorSays}
 use Rattle.geocentric.specs.declared.Geocentric.{Geocentric}
 use Rattle.geocentric.specs.Geo.{geocentricOf, ratioTo, ratioOf, heightOk, latitudeOk}
 use Rattle.synthesis.specs.declared.Xyz.{Xyz}
-use Rattle.synthesis.specs.Code.{lent}
+use Rattle.synthesis.specs.Sum.{Lent, lent, listsSay, sumSays, valueOf}
 use Rattle.field.specs.declared.strengths.GeomagneticField.{GeomagneticField}
 use Rattle.field.specs.declared.FieldAnswer.{FieldAnswer}
 use Rattle.field.specs.declared.FieldAnswer.the-variants as Answer
-use Rattle.field.specs.Field.{said, Asked, Accepted, Close, datedSays, field-x, field-y, field-z, fieldSays, handed, placeSays, recordOf, sameYear, shownSays, strengthsOf, wrongHeight}
+use Rattle.field.specs.Field.{said, Asked, FieldAccepted, FieldClose, datedSays, field-x, field-y, field-z, fieldSays, handed, placeSays, recordOf, sameYear, shownSays, strengthsOf, wrongHeight}
 use Rattle.synthesis.proofs.Checked.{Listed, listed}
 use Rattle.field.proofs.Laws.{accepted-by, close, sum-says}
 use Rattle.synthesis.proofs.Carry.{carry-lists, lists-accept}
 use Rattle.exact.specs.Tests.{circle}
-use Rattle.synthesis.specs.Sum.{Lent, listsSay, sumSays, valueOf}
 use Rattle.field.specs.Turn.{turned}
 
 -- ---- the place
@@ -114,7 +114,7 @@ module _ (a : Asked) (e : EpochOffset) where
   unfolding datedSays
   unknown-set n = rw n
 
-  module _ (w : Accepted a e) (n : knownEpoch (a .set-epoch) ≡ true) (p : Geocentric) (ep : p ≡ geocentricOf (a .height) (a .sin-phi) (a .cos-phi)) (q : Float) (eq : q ≡ ratioTo (p .r)) where
+  module _ (w : FieldAccepted a e) (n : knownEpoch (a .set-epoch) ≡ true) (p : Geocentric) (ep : p ≡ geocentricOf (a .height) (a .sin-phi) (a .cos-phi)) (q : Float) (eq : q ≡ ratioTo (p .r)) where
     abbrev asks : Lent
     asks = lent (p .«cos_theta») (p .«sin_theta») (a .sin-lambda) (a .cos-lambda) q (e .offset) (a .g) (a .h) (a .g-dot) (a .h-dot)
 
@@ -133,7 +133,7 @@ module _ (a : Asked) (e : EpochOffset) where
     lists-refused k h = carry-lists (a .g) (a .h) (a .g-dot) (a .h-dot) k (valueOf (handed a e)) (shownSays (a .set-epoch) (e .«epoch_year») (strengthsOf a e)) (h ∙ says) ∙ after-set
 
     pub strengths-shown : (v : Xyz) → answered v ≡ sumSays asks → (u : Xyz) → u ≡ turned v p (a .sin-phi) (a .cos-phi) → (r : Paper GeomagneticField) → r ≡ shownSays (a .set-epoch) (e .«epoch_year») u → r ≡ datedSays a e
-    unfolding turned field-x field-y field-z handed geocentricOf
+    unfolding valueOf turned field-x field-y field-z handed geocentricOf
     strengths-shown v h u eu r er =
         let l = listed (a .g) (a .h) (a .g-dot) (a .h-dot) (answered (valueOf (handed a e))) v (sym (h ∙ says)) in
         let ev : v ≡ valueOf (handed a e) = sym (answered-one (valueOf (handed a e)) v (l .1)) in
@@ -141,20 +141,6 @@ module _ (a : Asked) (e : EpochOffset) where
         er ∙ ap (shownSays (a .set-epoch) (e .«epoch_year»)) es ∙ sym (lists-accept (a .g) (a .h) (a .g-dot) (a .h-dot) (shownSays (a .set-epoch) (e .«epoch_year») (strengthsOf a e)) (l .0)) ∙ after-set
 
 -- ---- Field
-pub after-paper : {A B : Type 0} (k : Refusal) (f : A → Paper B) → after (paper k) f ≡ paper k
-after-paper (Height a b) f = refl
-after-paper Latitude f = refl
-after-paper Longitude f = refl
-after-paper DayOfYear f = refl
-after-paper (EpochYear a b) f = refl
-after-paper Length f = refl
-after-paper (Coefficient l i) f = refl
-after-paper (OtherEpoch d s) f = refl
-after-paper Colatitude f = refl
-after-paper Ratio f = refl
-after-paper Offset f = refl
-after-paper Unusable f = refl
-
 module _ (a : Asked) (u : Verdict) (t : (p : Paper GeomagneticField) → told u p ≡ placeSays (a .height) (a .sin-phi) (a .cos-phi) (a .sin-lambda) (a .cos-lambda) p) where
   pub place-refused : (year day : ℤ) (k : Refusal) → u ≡ Verdict.Refused k → paper k ≡ fieldSays a year day
   unfolding fieldSays
@@ -166,7 +152,7 @@ module _ (a : Asked) (u : Verdict) (t : (p : Paper GeomagneticField) → told u 
 module _ (a : Asked) (year day : ℤ) (f : (q : Paper GeomagneticField) → q ≡ placeSays (a .height) (a .sin-phi) (a .cos-phi) (a .sin-lambda) (a .cos-lambda) q) where
   pub day-refused : (k : Refusal) → paper k ≡ epochSays year day → paper k ≡ fieldSays a year day
   unfolding fieldSays
-  day-refused k h = f (paper k) ∙ ap (placeSays (a .height) (a .sin-phi) (a .cos-phi) (a .sin-lambda) (a .cos-lambda)) (sym (after-paper k (datedSays a)) ∙ ap (λ (q : Paper EpochOffset). after q (datedSays a)) h)
+  day-refused k h = f (paper k) ∙ ap (placeSays (a .height) (a .sin-phi) (a .cos-phi) (a .sin-lambda) (a .cos-lambda)) (ap (λ (q : Paper EpochOffset). after q (datedSays a)) h)
 
   pub day-answered : (e : EpochOffset) → answered e ≡ epochSays year day → (r : Paper GeomagneticField) → r ≡ datedSays a e → r ≡ fieldSays a year day
   unfolding fieldSays
@@ -177,19 +163,16 @@ pub after-answered : {A B : Type 0} (p : Paper A) (f : A → Paper B) (b : B) �
 after-answered (answered x) f b e = (x, (refl, e))
 after-answered (refused n y z) f b e = absurd (let q : _≡_ {A = ℕ} 0 1 = cc in omega arith)
 
-abbrev fifth : Refusal
-fifth = EpochYear (record { year = pos 2020; «day_of_year» = pos 1 }) (record { year = pos 2029; «day_of_year» = pos 365 })
-
 epoch-is : (year day : ℤ) (e : EpochOffset) → epochSays year day ≡ answered e → epochOffset year day ≡ e
 unfolding epochSays
 epoch-is year day e h =
     let p1 = passed (dayExists year day) DayOfYear _ e h in
-    let p2 = passed (knownEpoch (epochYear year)) fifth _ e (p1 .1) in
+    let p2 = passed (knownEpoch (epochYear year)) unknownEpoch _ e (p1 .1) in
     answered-one (epochOffset year day) e (p2 .1)
 
 -- what stands behind a record that is shown, for a day of epoch and offset e
 pub record Found (a : Asked) (e : EpochOffset) (v : GeomagneticField) : Type 0 where
-  pub accepted : Accepted a e
+  pub accepted : FieldAccepted a e
   pub lists : Listed (a .g) (a .h) (a .g-dot) (a .h-dot)
   pub same : sameYear (a .set-epoch) (e .«epoch_year») ≡ true
   pub is : recordOf (strengthsOf a e) (e .«epoch_year») ≡ v
@@ -202,7 +185,7 @@ found a year day v h =
     let p3 = passed (circle (a .sin-lambda) (a .cos-lambda)) Longitude _ v (p2 .1) in
     let q = after-answered (epochSays year day) (datedSays a) v (p3 .1) in
     let e = q .0 in
-    let p4 = passed (knownEpoch (a .set-epoch)) fifth _ v (q .1 .1) in
+    let p4 = passed (knownEpoch (a .set-epoch)) unknownEpoch _ v (q .1 .1) in
     let l = listed (a .g) (a .h) (a .g-dot) (a .h-dot) _ v (p4 .1) in
     let p5 = passed (sameYear (a .set-epoch) (e .«epoch_year»)) (OtherEpoch (e .«epoch_year») (a .set-epoch)) _ v (l .1) in
     subst (λ (x : EpochOffset). Found a x v) (sym (epoch-is year day e (q .1 .0)))
@@ -219,10 +202,10 @@ day-found a year day v h =
     q .1 .0 ∙ ap answered (sym (epoch-is year day (q .0) (q .1 .0)))
 
 -- demand 3: an answer lies close to the exact field
-pub answer-close : (a : Asked) (year day : ℤ) (r : FieldAnswer) → said r ≡ fieldSays a year day → (v : GeomagneticField) → r ≡ Answer.Field v → Close a (epochOffset year day) v
+pub answer-close : (a : Asked) (year day : ℤ) (r : FieldAnswer) → said r ≡ fieldSays a year day → (v : GeomagneticField) → r ≡ Answer.Field v → FieldClose a (epochOffset year day) v
 answer-close a year day r h v e =
     let f = found a year day v (sym h ∙ ap said e) in
-    subst (λ (u : GeomagneticField). Close a (epochOffset year day) u) (f .is) (close a (epochOffset year day) (f .accepted) (f .lists))
+    subst (λ (u : GeomagneticField). FieldClose a (epochOffset year day) u) (f .is) (close a (epochOffset year day) (f .accepted) (f .lists))
 
 -- any two answers that the contract allows are equal
 pub field-answer-one : (a : Asked) (year day : ℤ) (r s : FieldAnswer) → said r ≡ fieldSays a year day → said s ≡ fieldSays a year day → r ≡ s

@@ -1,4 +1,4 @@
--- X, Y and Z of Field stay below 2 ^ 60 in size, for every accepted input: the majorants are worked out once, at the largest input, in units of 2 ^ -20 and with rounding upward.
+-- X, Y and Z of Field stay below the largest size of a component, for every accepted input: the majorants are worked out once, at the largest input, in units of 2 ^ -20 and with rounding upward.
 use mathlib.Core.Path.{_≡_, refl, sym, subst}
 use Prim.Native.Nat.{ℕ, zero, suc, _+_, _*_, _/_, _^_, _≤_, _<_}
 use native.Mathlib.Nat.{add-mul, div-add-mod', le-of-mul-le-mul-right, le-trans, mod-lt, mul-le-mul, mul-le-mul-right, not-suc-le-zero, zero-mul, mul-zero, zero-lt-suc}
@@ -12,37 +12,38 @@ use lib.Ieee.Fits.{and-i, and-l, and-r, down-pos}
 use lib.Ieee.Order.{le-of-values}
 use lib.Ieee.Positive.{between, den, num, own-value, values-of-le}
 use Rattle.exact.specs.Exact.{Exact, Size, invE, own, size}
-use Rattle.exact.specs.Circle.{Slight, circle-slight}
-use Rattle.exact.specs.Near.{Fine, Near}
-use Rattle.exact.specs.Ranks.{Leaf, fine-below, fine-ok}
-use Rattle.exact.specs.Reach.{near-size}
-use Rattle.exact.specs.Sizes.{own-over, own-size}
+use Rattle.exact.proofs.Circle.{Slight, circle-slight}
+use Rattle.exact.proofs.Near.{Fine, Near}
+use Rattle.exact.proofs.Ranks.{Leaf, fine-below, fine-ok}
+use Rattle.exact.proofs.Reach.{near-size}
+use Rattle.exact.proofs.Sizes.{own-over, own-size}
 use Rattle.exact.specs.Tests.{capped}
 use Rattle.models.specs.declared.epochs.EpochOffset.{EpochOffset}
 use Rattle.geocentric.proofs.Laws.{latitude-circle}
 use lib.Ieee.Scale.{finite}
 use Rattle.tables.specs.Degree.{N-MAX, place}
 use Rattle.tables.specs.Tables.{kAt, kBits, schmidtAt, schmidtBits}
-use Rattle.synthesis.specs.Arithmetic.{Arithmetic, plusS, rounded, sizes, timesS}
+use Rattle.sums.specs.Arithmetic.{Arithmetic, plusS, rounded, sizes, timesS}
+use Rattle.sums.proofs.Near.{accA, eastA}
+use Rattle.sums.proofs.Terms.{angS, legS, powS}
+use Rattle.sums.proofs.Keeps.{rounded-keeps}
+use Rattle.sums.proofs.Images.{size-hom}
+use Rattle.sums.specs.Recurrence.{Input, angle, coefficient, dpsn, gc-hs, gs-hc, legendre, lit, pole-angle, pole-gc, pole-gs, pole-x, pole-x-row, pole-y, pole-z, pole-z-row, power, psn, quotient, step, total, x-row, x-sum, y-row, y-sum, z-row, z-sum}
+use Rattle.sums.proofs.Related.{Alike, Related, pole-x-related, pole-y-related, pole-z-related, x-sum-related, y-sum-related, z-sum-related}
+use Rattle.synthesis.specs.Sum.{Lent, SumAccepted, inputs, main-cap, rate-cap, ratio-ok, sum-x, sum-y, sum-z}
+use Rattle.sums.specs.Paths.{POLE-ORDERS, placed, small-sine}
 use Rattle.synthesis.proofs.Checked.{Listed}
-use Rattle.synthesis.specs.Demand as Sum
-use Rattle.synthesis.specs.Sums.{accA, eastA}
-use Rattle.synthesis.specs.Terms.{angS, legS, powS}
-use Rattle.synthesis.specs.Keeps.{rounded-keeps}
-use Rattle.synthesis.specs.Majorant.{size-hom}
+use Rattle.synthesis.proofs.Demand as Sum
 use Rattle.field.specs.Turn.{cos-turn, sin-turn, turn-x, turn-z}
-use Rattle.field.specs.Field.{Accepted, Asked, field-x, field-y, field-z, fieldSays, handed, recordOf, strengthsOf}
+use Rattle.field.specs.Field.{FieldAccepted, Asked, field-x, field-y, field-z, fieldSays, handed, recordOf, strengthsOf}
 use Rattle.field.specs.declared.strengths.GeomagneticField.{GeomagneticField}
 use Rattle.field.proofs.Answers.{found}
 use Rattle.models.specs.Epochs.{epochOffset, knownEpoch}
 use Rattle.models.specs.Errors.{errorModel}
 use Rattle.refusals.specs.Paper.{answered}
-use Rattle.field.specs.Strengths.{hOf, strengthSays, uncertaintyOf, uncertaintySays, usable, zoneOf, zoneSays}
+use Rattle.field.specs.Strengths.{hOf, max-component, strengthSays, uncertaintyOf, uncertaintySays, usable, zoneOf, zoneSays}
 use Rattle.field.proofs.TurnNear.{turnedA}
 use Rattle.field.proofs.Laws.{field-x-image, field-x-near, field-y-image, field-y-near, field-z-image, field-z-near, sum-accepted}
-use Rattle.synthesis.specs.Recurrence.{Input, angle, dpsn, g-at, gc-hs, gs-hc, h-at, legendre, lit, pole-angle, pole-gc, pole-gs, pole-x, pole-x-row, pole-y, pole-z, pole-z-row, power, psn, quotient, step, total, x-row, x-sum, y-row, y-sum, z-row, z-sum}
-use Rattle.synthesis.specs.Related.{Alike, Related, pole-x-related, pole-y-related, pole-z-related, x-sum-related, y-sum-related, z-sum-related}
-use Rattle.synthesis.specs.Sum.{Lent, POLE-ORDERS, inputs, main-cap, near-pole, rate-cap, ratio-ok, sum-x, sum-y, sum-z}
 
 -- ---- sizes in units of 2 ^ -20
 unfoldable upward : Size → ℕ
@@ -116,20 +117,18 @@ under-related =
     }
 
 -- ---- the largest input: pairs of 3/2, the ratio 65/64, five years, every entry at its cap
-top : Input
+top : Input ℕ
 top =
     let s = ofBits binary32 0x3fc00000 in
+    let c = coefficient ceilings (ceilings .num main-cap) (ceilings .num rate-cap) (ceilings .num (ofBits binary32 0x40a00000)) in
     record {
       cos-theta = s;
       sin-theta = s;
       sin-lambda = s;
       cos-lambda = s;
       ratio = ofBits binary32 0x3f820000;
-      offset = ofBits binary32 0x40a00000;
-      g = λ n m. main-cap;
-      h = λ n m. main-cap;
-      g-dot = λ n m. rate-cap;
-      h-dot = λ n m. rate-cap;
+      g = λ n m. c;
+      h = λ n m. c;
       S = λ n m. schmidtAt (place n m);
       K = λ n m. kAt (place n m);
     }
@@ -169,11 +168,11 @@ rate-under f h = rw (tops .4) (leaf-under 4096 4294967297 f h (lit≤ tt))
 years-under : (f : Float) → Leaf 5 f → Under (sizes .num f) (ceilings .num (ofBits binary32 0x40a00000))
 years-under f h = rw (tops .2) (leaf-under 5 5242881 f h (lit≤ tt))
 
-alike-top : (a : Lent) → Sum.Accepted a → Alike sizes ceilings Under (inputs a) top
-unfolding inputs g-at h-at top ofBits
+alike-top : (a : Lent) → SumAccepted a → Alike sizes ceilings Under (inputs sizes a) top
+unfolding inputs placed top ofBits
 alike-top a w =
     let k = under-related in
-    let o = Sum.ok a w in
+    let o = Sum.leaves a w in
     let c = circle-slight (a .sin-theta) (a .cos-theta) (w .colatitude) in
     let l = circle-slight (a .sin-lambda) (a .cos-lambda) (w .longitude) in
     record {
@@ -191,7 +190,7 @@ alike-top a w =
 -- ---- what the sums come to there, computed
 within-top : (leb (x-sum ceilings top N-MAX) (2 ^ 70) ≡ true) × (leb (y-sum ceilings top N-MAX) (15 * 2 ^ 65) ≡ true) × (leb (z-sum ceilings top N-MAX) (2 ^ 70) ≡ true)
     × (leb (pole-x ceilings top POLE-ORDERS N-MAX) (2 ^ 70) ≡ true) × (leb (pole-y ceilings top N-MAX) (2 ^ 78) ≡ true) × (leb (pole-z ceilings top POLE-ORDERS N-MAX) (2 ^ 70) ≡ true)
-unfolding ceilings upward invE own ofBits ofInt round lit schmidtAt schmidtBits kAt kBits angle pole-angle step legendre total g-at h-at gc-hs gs-hc psn dpsn power x-row y-row z-row x-sum y-sum z-sum quotient pole-gc pole-gs pole-x-row pole-z-row pole-x pole-y pole-z top
+unfolding ceilings upward invE own ofBits ofInt round lit schmidtAt schmidtBits kAt kBits angle pole-angle step legendre total gc-hs gs-hc psn dpsn power x-row y-row z-row x-sum y-sum z-sum quotient pole-gc pole-gs pole-x-row pole-z-row pole-x pole-y pole-z top
 within-top = (refl, refl, refl, refl, refl, refl)
 
 at-most : (m n : ℕ) → leb m n ≡ true → m ≤ n
@@ -202,22 +201,24 @@ choose true p q = p tt
 choose false p q = q tt
 
 -- ---- the majorants of Sum, in units
-module _ (a : Lent) (w : Sum.Accepted a) where
+module _ (a : Lent) (w : SumAccepted a) where
   x-under : Under (sum-x sizes a) (2 ^ 70)
-  x-under = choose (near-pole a) (λ t. under-more (at-most _ _ (within-top .3)) (pole-x-related sizes ceilings Under under-related (inputs a) top (alike-top a w) POLE-ORDERS N-MAX)) (λ t. under-more (at-most _ _ (within-top .0)) (x-sum-related sizes ceilings Under under-related (inputs a) top (alike-top a w) N-MAX))
+  unfolding inputs placed
+  x-under = choose (small-sine (a .sin-theta)) (λ t. under-more (at-most _ _ (within-top .3)) (pole-x-related sizes ceilings Under under-related (inputs sizes a) top (alike-top a w) POLE-ORDERS N-MAX)) (λ t. under-more (at-most _ _ (within-top .0)) (x-sum-related sizes ceilings Under under-related (inputs sizes a) top (alike-top a w) N-MAX))
 
   z-under : Under (sum-z sizes a) (2 ^ 70)
-  z-under = choose (near-pole a) (λ t. under-more (at-most _ _ (within-top .5)) (pole-z-related sizes ceilings Under under-related (inputs a) top (alike-top a w) POLE-ORDERS N-MAX)) (λ t. under-more (at-most _ _ (within-top .2)) (z-sum-related sizes ceilings Under under-related (inputs a) top (alike-top a w) N-MAX))
+  unfolding inputs placed
+  z-under = choose (small-sine (a .sin-theta)) (λ t. under-more (at-most _ _ (within-top .5)) (pole-z-related sizes ceilings Under under-related (inputs sizes a) top (alike-top a w) POLE-ORDERS N-MAX)) (λ t. under-more (at-most _ _ (within-top .2)) (z-sum-related sizes ceilings Under under-related (inputs sizes a) top (alike-top a w) N-MAX))
 
   -- 1 / sine is at most 1024
-  inverse-under : T (not (near-pole a)) → Under (size (invE (own (a .sin-theta)))) (2 ^ 30)
+  inverse-under : T (not (small-sine (a .sin-theta))) → Under (size (invE (own (a .sin-theta)))) (2 ^ 30)
   inverse-under t = record { units = λ o. omega (arith, Sum.sine-divides a w t .size) }
 
   y-under : Under (sum-y sizes a) (15 * 2 ^ 75 + 1)
-  unfolding sizes
+  unfolding sizes inputs placed
   y-under =
-      choose (near-pole a) (λ t. under-more (le-trans (at-most _ _ (within-top .4)) (lit≤ tt)) (pole-y-related sizes ceilings Under under-related (inputs a) top (alike-top a w) N-MAX))
-      (λ t. under-times (under-more (at-most _ _ (within-top .1)) (y-sum-related sizes ceilings Under under-related (inputs a) top (alike-top a w) N-MAX)) (inverse-under t))
+      choose (small-sine (a .sin-theta)) (λ t. under-more (le-trans (at-most _ _ (within-top .4)) (lit≤ tt)) (pole-y-related sizes ceilings Under under-related (inputs sizes a) top (alike-top a w) N-MAX))
+      (λ t. under-times (under-more (at-most _ _ (within-top .1)) (y-sum-related sizes ceilings Under under-related (inputs sizes a) top (alike-top a w) N-MAX)) (inverse-under t))
 
 -- ---- the majorants of Field: the turn multiplies by at most 9/2, twice
 module _ (c s cp sp : Float) (C : Slight c) (S : Slight s) (CP : Slight cp) (SP : Slight sp) {x z : Size} (X : Under x (2 ^ 70)) (Z : Under z (2 ^ 70)) where
@@ -241,16 +242,20 @@ module _ (c s cp sp : Float) (C : Slight c) (S : Slight s) (CP : Slight cp) (SP 
   turn-z-under = under-more (lit≤ tt) (under-plus (under-times X sin-under) (under-times Z cos-under))
 
 -- ---- from a majorant in units to the test of a component
--- the cap is 2 ^ 60
-capped-by : (f : Float) → T (finite f) → own f .plus + own f .minus ≤ 2 ^ 60 * own f .over → T (capped (ofBits binary32 0x5d800000) f)
+-- what X and Z, and Y, come to at most is below the largest size of a component
+below-largest : (leb (2 * suc (2 ^ 55)) (num max-component) ≡ true) × (leb (2 * suc (15 * 2 ^ 55 + 1)) (num max-component) ≡ true)
+unfolding ofBits
+below-largest = (refl, refl)
+
+capped-by : (f : Float) → T (finite f) → own f .plus + own f .minus ≤ num max-component * own f .over → T (capped max-component f)
 unfolding capped ofBits own
 capped-by nan t h = absurd t
 capped-by (inf s) t h = absurd t
-capped-by (fin false m e) t h = le-of-values (fin false m e) (fin false 1 (pos 60)) (m * up e) (down e) (2 ^ 60) 1 (down-pos e) (lit< tt) (refl, refl) (refl, refl) (omega arith)
-capped-by (fin true m e) t h = le-of-values (fin false m e) (fin false 1 (pos 60)) (m * up e) (down e) (2 ^ 60) 1 (down-pos e) (lit< tt) (refl, refl) (refl, refl) (omega arith)
+capped-by (fin false m e) t h = le-of-values (fin false m e) max-component (m * up e) (down e) (num max-component) 1 (down-pos e) (lit< tt) (refl, refl) (refl, refl) (omega arith)
+capped-by (fin true m e) t h = le-of-values (fin false m e) max-component (m * up e) (down e) (num max-component) 1 (down-pos e) (lit< tt) (refl, refl) (refl, refl) (omega arith)
 
 -- the same nearness with a sharper size
-resized : {k B E : ℕ} {f : Float} {x : Exact} (B' : ℕ) → Near k B E f x → x .plus + x .minus ≤ B' * x .over → Near k B' E f x
+pub resized : {k B E : ℕ} {f : Float} {x : Exact} (B' : ℕ) → Near k B E f x → x .plus + x .minus ≤ B' * x .over → Near k B' E f x
 resized B' m h =
     let c = m .close in
     record { p = m .p; q = m .q; d = m .d; is = m .is; close = record { pos = c .pos; over = c .over; size = h; plo = c .plo; phi = c .phi; qlo = c .qlo; qhi = c .qhi } }
@@ -261,20 +266,19 @@ cut-units n b B o h k =
     let r : B * 1048576 * o ≡ B * o * 1048576 = omega arith in
     le-of-mul-le-mul-right {k = 1048576} (subst (λ (z : ℕ). n * 1048576 ≤ z) r l) (zero-lt-suc 1048575)
 
-small : {k B E : ℕ} {f : Float} {x : Exact} {M : Size} (b B' : ℕ) → Near k B E f x → size x ≡ M → Under M b → b ≤ B' * 1048576 → Fine k B' E → 2 * suc B' ≤ 2 ^ 60 → T (capped (ofBits binary32 0x5d800000) f)
+small : {k B E : ℕ} {f : Float} {x : Exact} {M : Size} (b B' : ℕ) → Near k B E f x → size x ≡ M → Under M b → b ≤ B' * 1048576 → Fine k B' E → 2 * suc B' ≤ num max-component → T (capped max-component f)
 small {f = f} {x = x} b B' m e u l F t =
     let v : Under (size x) b = subst (λ (z : Size). Under z b) (sym e) u in
     let s = near-size (resized B' m (cut-units (x .plus + x .minus) b B' (x .over) l (v .units (m .close .over)))) F in
     capped-by f (s .0) (le-trans (s .1) (mul-le-mul-right (own f .over) t))
 
-all-three : (x y z : Float) → T (capped (ofBits binary32 0x5d800000) x) → T (capped (ofBits binary32 0x5d800000) y) → T (capped (ofBits binary32 0x5d800000) z)
-    → capped (ofBits binary32 0x5d800000) x && capped (ofBits binary32 0x5d800000) y && capped (ofBits binary32 0x5d800000) z ≡ true
+all-three : (x y z : Float) → T (capped max-component x) → T (capped max-component y) → T (capped max-component z) → capped max-component x && capped max-component y && capped max-component z ≡ true
 all-three x y z p q r =
-    let c : Float → Bool = capped (ofBits binary32 0x5d800000) in
+    let c : Float → Bool = capped max-component in
     is-true (c x && c y && c z) (and-i (c x && c y) (c z) (and-i (c x) (c y) p q) r)
 
-module _ (a : Asked) (e : EpochOffset) (w : Accepted a e) (l : Listed (a .g) (a .h) (a .g-dot) (a .h-dot)) where
-  abbrev given : Sum.Accepted (handed a e)
+module _ (a : Asked) (e : EpochOffset) (w : FieldAccepted a e) (l : Listed (a .g) (a .h) (a .g-dot) (a .h-dot)) where
+  abbrev given : SumAccepted (handed a e)
   given = sum-accepted a e w l
 
   pair : Slight (handed a e .sin-theta) × Slight (handed a e .cos-theta)
@@ -295,13 +299,17 @@ module _ (a : Asked) (e : EpochOffset) (w : Accepted a e) (l : Listed (a .g) (a 
   unfolding field-y
   field-y-under = y-under (handed a e) given
 
+  -- the majorant of Y is at most 2 ^ 60
+  pub field-y-size : 0 < field-y sizes a e .over → field-y sizes a e .num ≤ 2 ^ 60 * field-y sizes a e .over
+  field-y-size o = cut-units (field-y sizes a e .num) (15 * 2 ^ 75 + 1) (2 ^ 60) (field-y sizes a e .over) (lit≤ tt) (field-y-under .units o)
+
   -- X, Y and Z can be used
   pub record-usable : (year : ℤ) → usable (recordOf (strengthsOf a e) year) ≡ true
   unfolding usable accA legS angS powS
   record-usable year =
-      let x = small (2 ^ 75) (2 ^ 55) (field-x-near a e w l rounded-keeps) (field-x-image size-hom a e) field-x-under (lit≤ tt) (fine-below (fine-ok turnedA tt) (lit≤ tt) (lit≤ tt) (lit≤ tt)) (lit≤ tt) in
-      let y = small (15 * 2 ^ 75 + 1) (15 * 2 ^ 55 + 1) (field-y-near a e w l rounded-keeps) (field-y-image size-hom a e) field-y-under (lit≤ tt) (fine-below (fine-ok eastA tt) (lit≤ tt) (lit≤ tt) (lit≤ tt)) (lit≤ tt) in
-      let z = small (2 ^ 75) (2 ^ 55) (field-z-near a e w l rounded-keeps) (field-z-image size-hom a e) field-z-under (lit≤ tt) (fine-below (fine-ok turnedA tt) (lit≤ tt) (lit≤ tt) (lit≤ tt)) (lit≤ tt) in
+      let x = small (2 ^ 75) (2 ^ 55) (field-x-near a e w l rounded-keeps) (field-x-image size-hom a e) field-x-under (lit≤ tt) (fine-below (fine-ok turnedA tt) (lit≤ tt) (lit≤ tt) (lit≤ tt)) (at-most _ _ (below-largest .0)) in
+      let y = small (15 * 2 ^ 75 + 1) (15 * 2 ^ 55 + 1) (field-y-near a e w l rounded-keeps) (field-y-image size-hom a e) field-y-under (lit≤ tt) (fine-below (fine-ok eastA tt) (lit≤ tt) (lit≤ tt) (lit≤ tt)) (at-most _ _ (below-largest .1)) in
+      let z = small (2 ^ 75) (2 ^ 55) (field-z-near a e w l rounded-keeps) (field-z-image size-hom a e) field-z-under (lit≤ tt) (fine-below (fine-ok turnedA tt) (lit≤ tt) (lit≤ tt) (lit≤ tt)) (at-most _ _ (below-largest .0)) in
       all-three (field-x rounded a e) (field-y rounded a e) (field-z rounded a e) x y z
 
 -- ---- so no strength of a record that Field gave ends in 12

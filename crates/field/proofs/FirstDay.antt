@@ -8,19 +8,21 @@ use lib.IntN.{ℤ, pos}
 use lib.Ieee.{Float, binary32, add, mul}
 use lib.Ieee.Scale.{finite}
 use Rattle.exact.specs.Tests.{capped}
-use Rattle.exact.specs.Near.{finite-is}
-use Rattle.exact.specs.Ranks.{Leaf}
+use Rattle.exact.proofs.Near.{finite-is}
+use Rattle.exact.proofs.Ranks.{Leaf}
 use Rattle.float32.specs.Root.{sqrtOf}
 use Rattle.refusals.specs.Paper.{answered}
 use Rattle.models.specs.declared.epochs.EpochOffset.{EpochOffset}
 use Rattle.models.specs.Epochs.{epochYear, epochOffset, offsetOf}
 use Rattle.models.specs.Laws.{offset-at-epoch}
-use Rattle.synthesis.specs.Arithmetic.{rounded}
-use Rattle.synthesis.specs.Recurrence.{g-at, h-at}
+use Rattle.sums.specs.Arithmetic.{rounded}
 use Rattle.synthesis.specs.Sum.{inputs, sum-x, sum-z}
-use Rattle.synthesis.specs.Demand.{ok}
-use Rattle.synthesis.specs.Related.{Alike, sum-x-related, sum-y-related, sum-z-related}
-use Rattle.synthesis.specs.Same.{Same, same, null, by-same, add-same, null-times, square-same, abs-same, same-related}
+use Rattle.synthesis.proofs.Demand.{leaves}
+use Rattle.tables.specs.Degree.{N-MAX}
+use Rattle.sums.specs.Paths.{placed}
+use Rattle.sums.proofs.Related.{Alike, path-x-related, path-y-related, path-z-related}
+use Rattle.sums.specs.Same.{Same, null, same}
+use Rattle.sums.proofs.SameLaws.{abs-same, add-same, by-same, null-times, same-related, square-same}
 use Rattle.field.specs.declared.strengths.GeomagneticField.{GeomagneticField}
 use Rattle.field.specs.Field.{Asked, fieldSays, field-x, field-y, field-z, handed}
 use Rattle.field.specs.Strengths.{hOf, usable, zoneOf, zoneSays}
@@ -60,11 +62,11 @@ module _ (a : Asked) (gd hd : List Float) (e : EpochOffset) (z : e .offset ≡ n
   abbrev other : Asked
   other = rated a gd hd
 
-  alike : Alike rounded rounded Same (inputs (handed a e)) (inputs (handed other e))
-  unfolding inputs handed g-at h-at rounded
+  alike : Alike rounded rounded Same (inputs rounded (handed a e)) (inputs rounded (handed other e))
+  unfolding inputs placed handed rounded
   alike =
-      let p = ok (handed a e) (sum-accepted a e (F .accepted) (F .lists)) in
-      let q = ok (handed other e) (sum-accepted other e (G .accepted) (G .lists)) in
+      let p = leaves (handed a e) (sum-accepted a e (F .accepted) (F .lists)) in
+      let q = leaves (handed other e) (sum-accepted other e (G .accepted) (G .lists)) in
       record {
         cos-theta = same;
         sin-theta = same;
@@ -77,15 +79,15 @@ module _ (a : Asked) (gd hd : List Float) (e : EpochOffset) (z : e .offset ≡ n
         h = λ n m. unmoved (e .offset) _ _ _ z (leaf-finite (p .h-dot n m)) (leaf-finite (q .h-dot n m));
       }
 
-  sine : handed other e .sin-theta ≡ handed a e .sin-theta
-  unfolding handed
+  sine : inputs rounded (handed other e) .sin-theta ≡ inputs rounded (handed a e) .sin-theta
+  unfolding inputs placed handed
   sine = refl
 
   sum-x-same : Same (sum-x rounded (handed a e)) (sum-x rounded (handed other e))
-  sum-x-same = sum-x-related rounded rounded Same same-related (handed a e) (handed other e) sine alike
+  sum-x-same = path-x-related rounded rounded Same same-related (inputs rounded (handed a e)) (inputs rounded (handed other e)) sine alike N-MAX
 
   sum-z-same : Same (sum-z rounded (handed a e)) (sum-z rounded (handed other e))
-  sum-z-same = sum-z-related rounded rounded Same same-related (handed a e) (handed other e) sine alike
+  sum-z-same = path-z-related rounded rounded Same same-related (inputs rounded (handed a e)) (inputs rounded (handed other e)) sine alike N-MAX
 
   shown : {x y x' y' : Float} → x ≡ x' → y ≡ y' → Same x y → Same x' y'
   shown p q h = by-same (sym p) (sym q) h
@@ -100,7 +102,7 @@ module _ (a : Asked) (gd hd : List Float) (e : EpochOffset) (z : e .offset ≡ n
   unfolding field-y
   same-y =
       shown (ap (λ (u : GeomagneticField). u .y) (F .is)) (ap (λ (u : GeomagneticField). u .y) (G .is))
-      (sum-y-related rounded rounded Same same-related (handed a e) (handed other e) sine alike)
+      (path-y-related rounded rounded Same same-related (inputs rounded (handed a e)) (inputs rounded (handed other e)) sine alike N-MAX)
 
   same-z : Same (v .z) (w .z)
   unfolding field-z handed

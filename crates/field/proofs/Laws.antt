@@ -6,47 +6,62 @@ use lib.Dec.{T, lit≤}
 use lib.IntN.{ℤ}
 use lib.Ieee.{Float, binary32, ofBits, neg}
 use lib.Ieee.Positive.{positive}
-use Rattle.refusals.specs.Paper.{Paper, answered, passed}
+use Rattle.refusals.specs.Paper.{Paper, answered}
+use Rattle.refusals.proofs.Laws.{passed}
 use Rattle.refusals.specs.declared.Refusal.the-variants.{Height, Latitude, Longitude}
 use Rattle.models.specs.declared.epochs.EpochOffset.{EpochOffset}
 use Rattle.models.specs.Epochs.{epochSays, knownEpoch}
 use Rattle.models.specs.Dated.{Dated, dated}
-use Rattle.synthesis.specs.Demand as Sum
+use Rattle.sums.proofs.Distance.{majored}
 use Rattle.field.specs.declared.strengths.GeomagneticField.{GeomagneticField}
-use Rattle.field.specs.Field.{Accepted, Asked, Close, field-x, field-y, field-z, handed, placeSays, recordOf, strengthsOf}
+use Rattle.field.specs.Field.{FieldAccepted, Asked, FieldClose, field-x, field-y, field-z, handed, placeSays, recordOf, strengthsOf}
 use Rattle.exact.specs.Exact.{Exact}
-use Rattle.exact.specs.Ranks.{Leaf, Nr}
-use Rattle.exact.specs.Reach.{within}
+use Rattle.exact.proofs.Ranks.{Leaf, Nr}
+use Rattle.exact.proofs.Reach.{within}
 use Rattle.synthesis.proofs.Checked.{Listed, holds}
 use Rattle.exact.specs.Tests.{circle}
 use Rattle.geocentric.specs.Geo.{heightOk, latitudeOk}
-use Rattle.synthesis.specs.Sum.{listsSay, near-pole, ratio-ok, small-sine, sumSays, valueOf}
+use Rattle.synthesis.specs.Sum.{SumAccepted, listsSay, ratio-ok, sumSays, valueOf}
+use Rattle.sums.specs.Paths.{small-sine}
+use Rattle.sums.specs.Arithmetic.{Arithmetic}
+use Rattle.sums.proofs.Keeps.{Keeps, rounded-keeps}
+use Rattle.sums.proofs.Terms.{angS, legS, powS}
+use Rattle.sums.proofs.Near.{accA, eastA}
+use Rattle.synthesis.proofs.Demand.{sum-x-related, sum-y-near, sum-y-related, sum-z-related}
+use Rattle.sums.proofs.Related.{Related}
+use Rattle.sums.proofs.Images.{Hom, hom-related, size-hom}
 use Rattle.geocentric.proofs.Laws.{never-10, never-9, sine-positive, latitude-leaf}
 use Rattle.field.proofs.Offset.{never-11}
 use Rattle.synthesis.proofs.Carry.{numbers-accept}
-use Rattle.synthesis.specs.Arithmetic.{Arithmetic}
-use Rattle.synthesis.specs.Keeps.{Keeps, rounded-keeps}
-use Rattle.synthesis.specs.Terms.{angS, legS, powS}
-use Rattle.synthesis.specs.Sums.{accA, eastA, sum-y-near}
 use Rattle.field.proofs.TurnNear.{turned-x-near, turned-z-near, turnedA}
 use Rattle.field.proofs.TurnRelated.{turn-x-related, turn-z-related}
-use Rattle.synthesis.specs.Majorant.{Hom, hom-related, size-hom, x-image, y-image, z-image}
 
--- ---- a map that respects the operations carries X, Y and Z over
+-- ---- a relation between two arithmetics that every operation keeps holds between X, Y and Z
+module _ {A B : Type 0} {o : Arithmetic A} {o' : Arithmetic B} {R : A → B → Type 0} (k : Related o o' R) (a : Asked) (e : EpochOffset) where
+  pub field-x-related : R (field-x o a e) (field-x o' a e)
+  unfolding field-x
+  field-x-related = let s = handed a e in turn-x-related o o' R k (s .cos-theta) (s .sin-theta) (a .cos-phi) (a .sin-phi) (sum-x-related k s) (sum-z-related k s)
+
+  pub field-y-related : R (field-y o a e) (field-y o' a e)
+  unfolding field-y
+  field-y-related = sum-y-related k (handed a e)
+
+  pub field-z-related : R (field-z o a e) (field-z o' a e)
+  unfolding field-z
+  field-z-related = let s = handed a e in turn-z-related o o' R k (s .cos-theta) (s .sin-theta) (a .cos-phi) (a .sin-phi) (sum-x-related k s) (sum-z-related k s)
+
+-- so a map that respects the operations carries them over
 module _ {A B : Type 0} {o : Arithmetic A} {o' : Arithmetic B} {φ : A → B} (k : Hom o o' φ) (a : Asked) (e : EpochOffset) where
   pub field-x-image : φ (field-x o a e) ≡ field-x o' a e
-  unfolding field-x
-  field-x-image = let s = handed a e in turn-x-related o o' (λ x y. φ x ≡ y) (hom-related k) (s .cos-theta) (s .sin-theta) (a .cos-phi) (a .sin-phi) (x-image k s) (z-image k s)
+  field-x-image = field-x-related (hom-related k) a e
 
   pub field-y-image : φ (field-y o a e) ≡ field-y o' a e
-  unfolding field-y
-  field-y-image = y-image k (handed a e)
+  field-y-image = field-y-related (hom-related k) a e
 
   pub field-z-image : φ (field-z o a e) ≡ field-z o' a e
-  unfolding field-z
-  field-z-image = let s = handed a e in turn-z-related o o' (λ x y. φ x ≡ y) (hom-related k) (s .cos-theta) (s .sin-theta) (a .cos-phi) (a .sin-phi) (x-image k s) (z-image k s)
+  field-z-image = field-z-related (hom-related k) a e
 
-module _ (a : Asked) (e : EpochOffset) (w : Accepted a e) where
+module _ (a : Asked) (e : EpochOffset) (w : FieldAccepted a e) where
   -- never 9: the computed pair passes the circle test; never 10: the ratio lies in its range
   pub field-never-9 : T (circle (handed a e .sin-theta) (handed a e .cos-theta))
   unfolding handed
@@ -62,12 +77,12 @@ module _ (a : Asked) (e : EpochOffset) (w : Accepted a e) where
   sum-says = numbers-accept (handed a e) field-never-9 (w .longitude) field-never-10 (w .offset)
 
   -- where Y' is divided by the sine, the sine is above zero
-  pub divided-by-positive : T (not (near-pole (handed a e))) → T (positive (handed a e .sin-theta))
+  pub divided-by-positive : T (not (small-sine (handed a e .sin-theta))) → T (positive (handed a e .sin-theta))
   unfolding handed small-sine
   divided-by-positive t = sine-positive (a .height) (a .sin-phi) (a .cos-phi) (w .height) (w .latitude) t
 
   module _ (l : Listed (a .g) (a .h) (a .g-dot) (a .h-dot)) where
-    pub sum-accepted : Sum.Accepted (handed a e)
+    pub sum-accepted : SumAccepted (handed a e)
     unfolding handed
     sum-accepted =
         record {
@@ -95,20 +110,20 @@ module _ (a : Asked) (e : EpochOffset) (w : Accepted a e) where
 
       pub field-y-near : Nr eastA (field-y o a e) (field-y o' a e)
       unfolding field-y
-      field-y-near = sum-y-near kept (handed a e) (Sum.ok (handed a e) sum-accepted) (Sum.sine-divides (handed a e) sum-accepted)
+      field-y-near = sum-y-near (handed a e) sum-accepted kept
 
       pub field-z-near : Nr turnedA (field-z o a e) (field-z o' a e)
       unfolding field-z
       field-z-near = turned-z-near kept (handed a e) sum-accepted (a .cos-phi) (a .sin-phi) lat-c lat-s
 
     -- demand 3 for Field
-    pub close : Close a e (recordOf (strengthsOf a e) (e .«epoch_year»))
+    pub close : FieldClose a e (recordOf (strengthsOf a e) (e .«epoch_year»))
     unfolding accA legS angS powS
     close =
         record {
-          x = Sum.majored (field-x-image size-hom a e) (within (field-x-near rounded-keeps) (lit≤ tt) (lit≤ tt));
-          y = Sum.majored (field-y-image size-hom a e) (within (field-y-near rounded-keeps) (lit≤ tt) (lit≤ tt));
-          z = Sum.majored (field-z-image size-hom a e) (within (field-z-near rounded-keeps) (lit≤ tt) (lit≤ tt));
+          x = majored (field-x-image size-hom a e) (within (field-x-near rounded-keeps) (lit≤ tt) (lit≤ tt));
+          y = majored (field-y-image size-hom a e) (within (field-y-near rounded-keeps) (lit≤ tt) (lit≤ tt));
+          z = majored (field-z-image size-hom a e) (within (field-z-near rounded-keeps) (lit≤ tt) (lit≤ tt));
         }
 
 -- ---- what an answer says of what is asked
@@ -118,14 +133,14 @@ known-of t = rw (t .epoch-is) (⊎-elim (λ h. rw h) (λ h. rw h) (t .known))
 
 module _ (a : Asked) (year day : ℤ) where
   pub accepted-by : heightOk (a .height) ≡ true → latitudeOk (a .sin-phi) (a .cos-phi) ≡ true → circle (a .sin-lambda) (a .cos-lambda) ≡ true
-      → (e : EpochOffset) → epochSays year day ≡ answered e → Accepted a e
+      → (e : EpochOffset) → epochSays year day ≡ answered e → FieldAccepted a e
   accepted-by h l c e d =
       let t = dated year day e d in
       record { height = holds h; latitude = holds l; longitude = holds c; offset = never-11 t; known = known-of t }
 
   -- a place that passed, and a day that Epoch answered for
   pub accepted-at : ((q : Paper GeomagneticField) → q ≡ placeSays (a .height) (a .sin-phi) (a .cos-phi) (a .sin-lambda) (a .cos-lambda) q)
-      → (e : EpochOffset) → epochSays year day ≡ answered e → Accepted a e
+      → (e : EpochOffset) → epochSays year day ≡ answered e → FieldAccepted a e
   unfolding placeSays
   accepted-at f e d =
       let v : GeomagneticField = recordOf (record { x = a .height; y = a .height; z = a .height }) (e .«epoch_year») in

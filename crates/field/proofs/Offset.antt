@@ -20,8 +20,8 @@ use Rattle.models.specs.Epochs.{naturalOffset}
 use Rattle.models.specs.Dated.{Dated}
 use Rattle.models.specs.declared.epochs.EpochOffset.{EpochOffset}
 use Rattle.synthesis.specs.Sum.{offset-ok}
-use Rattle.exact.specs.Sizes.{own-over, own-size}
-use Rattle.exact.specs.Range.{round-fit, Holds}
+use Rattle.exact.proofs.Sizes.{own-over, own-size}
+use Rattle.exact.proofs.Range.{round-fit, Holds}
 
 abbrev nought : Float
 nought = fin false 0 (pos 0)

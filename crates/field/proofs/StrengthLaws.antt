@@ -1,13 +1,14 @@
 -- The ways to a strength, and that each contract leaves one result.
 use mathlib.Core.Path.{_≡_, refl, sym, ap, _∙_}
 use mathlib.Core.Bool.{Bool, true, false, not}
-use lib.IntN.{ℤ, pos}
+use lib.IntN.{ℤ}
 use lib.Ieee.{Float, binary32, ofBits, lt}
 use Rattle.refusals.specs.declared.Refusal.{Refusal}
-use Rattle.refusals.specs.declared.Refusal.the-variants.{EpochYear, Unusable}
-use Rattle.refusals.specs.Paper.{Paper, answered, paper, unless, passed, paper-one, no-answer, answered-one}
+use Rattle.refusals.specs.declared.Refusal.the-variants.{Unusable}
+use Rattle.refusals.specs.Paper.{Paper, answered, paper, unless}
+use Rattle.refusals.proofs.Laws.{passed, paper-one, no-answer, answered-one}
 use Rattle.models.specs.declared.errors.WmmErrorModel.{WmmErrorModel}
-use Rattle.models.specs.Epochs.{wrongEpoch, knownEpoch}
+use Rattle.models.specs.Epochs.{unknownEpoch, wrongEpoch, knownEpoch}
 use Rattle.models.specs.Errors.{errorModel, errorSays}
 use Rattle.field.specs.declared.strengths.GeomagneticField.{GeomagneticField}
 use Rattle.field.specs.declared.strengths.StrengthAnswer.{StrengthAnswer}
@@ -44,9 +45,6 @@ module _ (v : GeomagneticField) (h : Float) (u : usable v ≡ true) (e : h ≡ h
     zone-none b = zone-is no-zone (unfold zoneOf in rw (a, b))
 
 -- ---- the uncertainty
-abbrev fifth : Refusal
-fifth = EpochYear (record { year = pos 2020; «day_of_year» = pos 1 }) (record { year = pos 2029; «day_of_year» = pos 365 })
-
 module _ (v : GeomagneticField) (y : ℤ) where
   pub uncertainty-refused : (k : Refusal) → paper k ≡ errorSays y → paper k ≡ uncertaintySays v y
   unfolding errorSays uncertaintySays
@@ -54,12 +52,12 @@ module _ (v : GeomagneticField) (y : ℤ) where
     where
       go : (b : Bool) → paper k ≡ unless b wrongEpoch (answered (errorModel y)) → paper k ≡ unless b wrongEpoch (unless (usable v) (paper Unusable) (answered (uncertaintyOf (errorModel y) (hOf v))))
       go true e = absurd (no-answer k (errorModel y) e)
-      go false e = ap paper (paper-one k fifth e)
+      go false e = ap paper (paper-one k unknownEpoch e)
 
   module _ (m : WmmErrorModel) (h : answered m ≡ errorSays y) where
     known : (knownEpoch y ≡ true) × (answered (errorModel y) ≡ answered m)
     unfolding errorSays
-    known = passed (knownEpoch y) fifth (answered (errorModel y)) m (sym h)
+    known = passed (knownEpoch y) unknownEpoch (answered (errorModel y)) m (sym h)
 
     pub uncertainty-unusable : usable v ≡ false → paper Unusable ≡ uncertaintySays v y
     unfolding uncertaintySays

@@ -1,14 +1,14 @@
 -- The turn keeps near what is near, for any two arithmetics of which one keeps near the other.
 use lib.Ieee.{Float}
-use Rattle.exact.specs.Ranks.{Abs, FineA, Leaf, Nr, addA, fine-ok, leafA, mulA}
+use Rattle.exact.proofs.Ranks.{Abs, FineA, Leaf, Nr, addA, fine-ok, leafA, mulA}
 use Rattle.exact.specs.Exact.{Exact}
-use Rattle.exact.specs.Circle.{circle-leaf}
-use Rattle.synthesis.specs.Arithmetic.{Arithmetic}
-use Rattle.synthesis.specs.Keeps.{Keeps}
-use Rattle.synthesis.specs.Terms.{angS, legS, powS}
-use Rattle.synthesis.specs.Sum.{Lent, sum-x, sum-z}
-use Rattle.synthesis.specs.Sums.{accA, sum-x-near, sum-z-near, sumA}
-use Rattle.synthesis.specs.Demand.{Accepted, ok}
+use Rattle.exact.proofs.Circle.{circle-leaf}
+use Rattle.sums.specs.Arithmetic.{Arithmetic}
+use Rattle.sums.proofs.Keeps.{Keeps}
+use Rattle.sums.proofs.Terms.{angS, legS, powS}
+use Rattle.synthesis.specs.Sum.{Lent, SumAccepted, sum-x, sum-z}
+use Rattle.sums.proofs.Near.{accA, sumA}
+use Rattle.synthesis.proofs.Demand.{sum-x-near, sum-z-near}
 use Rattle.field.specs.Turn.{cos-turn, sin-turn, turn-x, turn-z}
 
 -- ---- from any X' and Z' of the bound a
@@ -43,7 +43,7 @@ module _ {o : Arithmetic Float} {o' : Arithmetic Exact} (kept : Keeps o o') (c s
 abbrev pub turnedA : Abs
 turnedA = bothA sumA
 
-module _ {o : Arithmetic Float} {o' : Arithmetic Exact} (kept : Keeps o o') (a : Lent) (w : Accepted a) (cp sp : Float) (CP : Leaf 2 cp) (SP : Leaf 2 sp) where
+module _ {o : Arithmetic Float} {o' : Arithmetic Exact} (kept : Keeps o o') (a : Lent) (w : SumAccepted a) (cp sp : Float) (CP : Leaf 2 cp) (SP : Leaf 2 sp) where
   c-leaf : Leaf 2 (a .cos-theta)
   c-leaf = circle-leaf (a .sin-theta) (a .cos-theta) (w .colatitude) .1
 
@@ -53,11 +53,11 @@ module _ {o : Arithmetic Float} {o' : Arithmetic Exact} (kept : Keeps o o') (a :
   pub turned-x-near : Nr turnedA (turn-x o (a .cos-theta) (a .sin-theta) cp sp (sum-x o a) (sum-z o a)) (turn-x o' (a .cos-theta) (a .sin-theta) cp sp (sum-x o' a) (sum-z o' a))
   unfolding accA legS angS powS
   turned-x-near =
-      turn-x-near kept (a .cos-theta) (a .sin-theta) cp sp c-leaf s-leaf CP SP sumA (sum-x o a) (sum-z o a) (sum-x o' a) (sum-z o' a) (sum-x-near kept a (ok a w)) (sum-z-near kept a (ok a w))
+      turn-x-near kept (a .cos-theta) (a .sin-theta) cp sp c-leaf s-leaf CP SP sumA (sum-x o a) (sum-z o a) (sum-x o' a) (sum-z o' a) (sum-x-near a w kept) (sum-z-near a w kept)
       (fine-ok (mulA sumA turnA) tt) (fine-ok turnedA tt)
 
   pub turned-z-near : Nr turnedA (turn-z o (a .cos-theta) (a .sin-theta) cp sp (sum-x o a) (sum-z o a)) (turn-z o' (a .cos-theta) (a .sin-theta) cp sp (sum-x o' a) (sum-z o' a))
   unfolding accA legS angS powS
   turned-z-near =
-      turn-z-near kept (a .cos-theta) (a .sin-theta) cp sp c-leaf s-leaf CP SP sumA (sum-x o a) (sum-z o a) (sum-x o' a) (sum-z o' a) (sum-x-near kept a (ok a w)) (sum-z-near kept a (ok a w))
+      turn-z-near kept (a .cos-theta) (a .sin-theta) cp sp c-leaf s-leaf CP SP sumA (sum-x o a) (sum-z o a) (sum-x o' a) (sum-z o' a) (sum-x-near a w kept) (sum-z-near a w kept)
       (fine-ok (mulA sumA turnA) tt) (fine-ok turnedA tt)

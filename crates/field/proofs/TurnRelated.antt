@@ -1,7 +1,7 @@
 -- A relation between two arithmetics that every operation keeps goes through the turn.
 use lib.Ieee.{Float}
-use Rattle.synthesis.specs.Arithmetic.{Arithmetic}
-use Rattle.synthesis.specs.Related.{Related}
+use Rattle.sums.specs.Arithmetic.{Arithmetic}
+use Rattle.sums.proofs.Related.{Related}
 use Rattle.field.specs.Turn.{cos-turn, sin-turn, turn-x, turn-z}
 
 module _ {A B : Type 0} (o : Arithmetic A) (o' : Arithmetic B) (R : A → B → Type 0) (k : Related o o' R) (c s cp sp : Float) where

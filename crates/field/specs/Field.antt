@@ -14,9 +14,9 @@ use Rattle.models.specs.declared.epochs.EpochOffset.{EpochOffset}
 use Rattle.models.specs.Epochs.{wrongEpoch, knownEpoch, epochSays}
 use Rattle.models.specs.Errors.{errorModel}
 use Rattle.geocentric.specs.Geo.{cosOf, sinOf, ratioOf, heightOk, latitudeOk}
-use Rattle.synthesis.specs.Arithmetic.{Arithmetic, rounded, unrounded, sizes}
+use Rattle.sums.specs.Arithmetic.{Arithmetic, rounded, sizes, unrounded}
+use Rattle.synthesis.specs.Sum.{Lent, listsSay, offset-ok, sum-x, sum-y, sum-z}
 use Rattle.synthesis.specs.declared.Xyz.{Xyz}
-use Rattle.synthesis.specs.Sum.{Lent, offset-ok, listsSay, sum-x, sum-y, sum-z}
 use Rattle.field.specs.declared.strengths.GeomagneticField.{GeomagneticField}
 use Rattle.field.specs.declared.FieldAnswer.{FieldAnswer}
 use Rattle.field.specs.declared.FieldAnswer.the-variants as Answer
@@ -113,13 +113,13 @@ said (Answer.Field v) = answered v
 said (Answer.Refused k) = paper k
 
 -- demand 3: each component within the promised distance of the exact field, with the sizes as its majorant
-pub record Close (a : Asked) (e : EpochOffset) (v : GeomagneticField) : Type 0 where
+pub record FieldClose (a : Asked) (e : EpochOffset) (v : GeomagneticField) : Type 0 where
   pub x : Within (v .x) (field-x unrounded a e) (field-x sizes a e)
   pub y : Within (v .y) (field-y unrounded a e) (field-y sizes a e)
   pub z : Within (v .z) (field-z unrounded a e) (field-z sizes a e)
 
 -- what Field has found where it calls Sum
-pub record Accepted (a : Asked) (e : EpochOffset) : Type 0 where
+pub record FieldAccepted (a : Asked) (e : EpochOffset) : Type 0 where
   pub height : T (heightOk (a .height))
   pub latitude : T (latitudeOk (a .sin-phi) (a .cos-phi))
   pub longitude : T (circle (a .sin-lambda) (a .cos-lambda))

@@ -15,9 +15,13 @@ use Rattle.field.specs.declared.strengths.StrengthAnswer.the-variants as
 use Rattle.field.specs.declared.strengths.ZoneAnswer.{ZoneAnswer}
 use Rattle.field.specs.declared.strengths.ZoneAnswer.the-variants as Zone
 
--- finite, and at most 2 ^ 60 in size: each of X, Y and Z
+-- the largest size of a component: 2 ^ 60
+abbrev pub max-component : Float
+max-component = ofBits binary32 0x5d800000
+
+-- finite, and at most that in size: each of X, Y and Z
 unfoldable pub usable : GeomagneticField → Bool
-usable v = capped (ofBits binary32 0x5d800000) (v .x) && capped (ofBits binary32 0x5d800000) (v .y) && capped (ofBits binary32 0x5d800000) (v .z)
+usable v = capped max-component (v .x) && capped max-component (v .y) && capped max-component (v .z)
 
 -- the root of a·a + b·b, each operation rounded once
 abbrev pub hypotOf : Float → Float → Float

@@ -3,7 +3,7 @@
 use lib.Ieee.{Float}
 use Rattle.geocentric.specs.declared.Geocentric.{Geocentric}
 use Rattle.synthesis.specs.declared.Xyz.{Xyz}
-use Rattle.synthesis.specs.Arithmetic.{Arithmetic, rounded}
+use Rattle.sums.specs.Arithmetic.{Arithmetic, rounded}
 
 module _ {A : Type 0} (o : Arithmetic A) (c s cp sp : Float) where
   -- sin (φ' - φ)

@@ -16,7 +16,7 @@ use turn::turn;
 ghost use mathlib.Core.Path.{_≡_};
 ghost use mathlib.Core.Bool.{true};
 ghost use Rattle.models.specs.Epochs.{knownEpoch, epochOffset};
-ghost use Rattle.field.specs.Field.{asked, Accepted, fieldSays, datedSays, shownSays, said, Close};
+ghost use Rattle.field.specs.Field.{asked, FieldAccepted, fieldSays, datedSays, shownSays, said, FieldClose};
 
 mod grid;
 mod place;
@@ -71,7 +71,7 @@ fn field_at(
     g_dot: &[f32],
     h_dot: &[f32],
 ) -> FieldAnswer
-    requires { ⌜ Accepted (asked height (latitude .sin) (latitude .cos) (longitude .sin) (longitude .cos) «epoch_year» (now g) (now h) (now «g_dot») (now «h_dot»)) e ⌝ }
+    requires { ⌜ FieldAccepted (asked height (latitude .sin) (latitude .cos) (longitude .sin) (longitude .cos) «epoch_year» (now g) (now h) (now «g_dot») (now «h_dot»)) e ⌝ }
     ensures { λ r. ⌜ said r ≡ datedSays (asked height (latitude .sin) (latitude .cos) (longitude .sin) (longitude .cos) «epoch_year» (now (g .entry)) (now (h .entry)) (now («g_dot» .entry)) (now («h_dot» .entry))) e ⌝ }
 {
     if !models::known_epoch(epoch_year) {
@@ -103,7 +103,7 @@ pub fn field(
     h_dot: &[f32],
 ) -> FieldAnswer
     ensures answer { λ r. ⌜ said r ≡ fieldSays (asked height (latitude .sin) (latitude .cos) (longitude .sin) (longitude .cos) «epoch_year» (now (g .entry)) (now (h .entry)) (now («g_dot» .entry)) (now («h_dot» .entry))) (day .year) (day .«day_of_year») ⌝ }
-    ensures distance { λ r. ⌜ ((v : GeomagneticField) → r ≡ FieldAnswer.Field v → Close (asked height (latitude .sin) (latitude .cos) (longitude .sin) (longitude .cos) «epoch_year» (now (g .entry)) (now (h .entry)) (now («g_dot» .entry)) (now («h_dot» .entry))) (epochOffset (day .year) (day .«day_of_year»)) v) ⌝ }
+    ensures distance { λ r. ⌜ ((v : GeomagneticField) → r ≡ FieldAnswer.Field v → FieldClose (asked height (latitude .sin) (latitude .cos) (longitude .sin) (longitude .cos) «epoch_year» (now (g .entry)) (now (h .entry)) (now («g_dot» .entry)) (now («h_dot» .entry))) (epochOffset (day .year) (day .«day_of_year»)) v) ⌝ }
     ensures kept { λ _. ⌜ (now (g .exit) ≡ now (g .entry)) × (now (h .exit) ≡ now (h .entry)) × (now («g_dot» .exit) ≡ now («g_dot» .entry)) × (now («h_dot» .exit) ≡ now («h_dot» .entry)) ⌝ }
 {
     if let Verdict::Refused(k) = check_place(height, latitude, longitude) {

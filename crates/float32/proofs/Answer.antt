@@ -4,12 +4,13 @@ use Prim.Native.Nat.{ℕ, zero, suc, _*_, _≤_, _<_}
 use native.Mathlib.Nat.{mul-pos, zero-mul, zero-lt-suc, le-antisymm}
 use native.Mathlib.Omega.{arith}
 use mathlib.Core.Bool.{Bool, true, false, _&&_, _||_, true≢false}
-use mathlib.Core.List.{[]}
 use lib.Dec.{ltb, eqb}
 use borrow.Author.Tests.{ltb-false, eq-eqb, ne-eqb}
 use lib.Ieee.{Float, nan, inf, fin, binary32, lt, le, eq, ofBits, up, down}
 use lib.Ieee.Fits.{up-pos}
-use Rattle.refusals.specs.Paper.{answered, refused, paper-one, no-answer, answered-one}
+use Rattle.refusals.specs.declared.Refusal.the-variants.{Unusable}
+use Rattle.refusals.specs.Paper.{answered, paper}
+use Rattle.refusals.proofs.Laws.{paper-one, no-answer, answered-one}
 use Rattle.float32.specs.declared.RootAnswer.{RootAnswer}
 use Rattle.float32.specs.declared.RootAnswer.the-variants.{Root, Refused}
 use Rattle.float32.specs.Root.{sqrtOf, rootable}
@@ -51,7 +52,7 @@ pub root-said : (x r : Float) → rootable x ≡ true → r ≡ sqrtOf x → ans
 unfolding rootSays
 root-said x r h e = rw (e, h)
 
-pub refusal-said : (x : Float) → rootable x ≡ false → refused 12 [] [] ≡ rootSays x
+pub refusal-said : (x : Float) → rootable x ≡ false → paper Unusable ≡ rootSays x
 unfolding rootSays
 refusal-said x h = rw h
 

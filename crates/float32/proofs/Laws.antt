@@ -1,25 +1,27 @@
 -- The laws of `sqrtOf`, for an x that an `f32` holds, finite and above zero. Assumes nothing.
--- `is-root`: it is the `f32` nearest to the root. `one-root`: no other is. `relative`, `squared`: how far off it is.
+-- `is-root`: it is the `f32` nearest to the root. `one-root`: no other is. `relative`, `squared`: how far off it is. At the end what holds at zero too.
 use mathlib.Core.Path.{_≡_, refl, sym, ap, _∙_, subst}
-use Prim.Native.Nat.{ℕ, zero, suc, _+_, _-_, _*_, _/_, _%_, _^_, _≤_, _<_}
-use native.Mathlib.Nat.{mul-pos, add-comm, mul-le-mul-right, mul-mul-mul-comm, lt-of-lt-of-le}
+use Prim.Native.Nat.{ℕ, zero, suc, _+_, _-_, _*_, _/_, _%_, _^_, _≤_, _<_, zero-le}
+use native.Mathlib.Nat.{mul-pos, add-comm, mul-le-mul-right, mul-mul-mul-comm, lt-of-lt-of-le, le-of-mul-le-mul-right, zero-mul, zero-lt-suc}
 use native.Mathlib.Omega.{arith}
 use mathlib.Core.Bool.{true, false}
-use lib.Dec.{T}
+use lib.Dec.{T, lt→ltb, lit<}
 use lib.Pow.{pow-pos, pow-add, pow-mono, shl-lt}
-use lib.Ieee.{Float, nan, inf, fin, binary32, odd, size, toBits, fits}
+use lib.Ieee.{Float, nan, inf, fin, binary32, odd, size, toBits, fits, le}
 use lib.Ieee.Fits.{odd-fits}
 use lib.Ieee.Exact.{HasValue, odd-sign}
-use lib.Ieee.Positive.{positive, positive-of-value, value-pos}
+use lib.Ieee.Order.{le-of-values}
+use lib.Ieee.Positive.{positive, positive-finite, positive-of-value, value-pos, values-of-le}
+use lib.Ieee.Scale.{finite}
 use Rattle.exact.specs.Exact.{unitsOf}
 use Rattle.float32.specs.Bits.{floatOf}
-use Rattle.float32.specs.Root.{sqrtOf, nearestRoot, IsRoot}
+use Rattle.float32.specs.Root.{sqrtOf, rootable, clear, nearestRoot, IsRoot}
 use Rattle.float32.specs.Parts.{Nearest, Lifted, spread, shift}
 use Rattle.float32.proofs.Bits.{float-back}
 use Rattle.float32.proofs.Powers.{placed, lift, M, F}
 use Rattle.float32.proofs.Whole.{nearest-is, spread-even, spread-odd}
 use Rattle.float32.proofs.Patterns.{pattern, subnormal, not-positive}
-use Rattle.float32.proofs.Floats.{value, units-is, root-written}
+use Rattle.float32.proofs.Floats.{keeps, value, units-is, root-written}
 use Rattle.float32.proofs.Spacing.{up-is-farther, down-is-farther, square-lt, relative-up, relative-down, square-up, square-down}
 
 -- ---- an `f32` that is finite and above zero is m * 2 ^ k units, m with 24 digits at most
@@ -179,3 +181,38 @@ exact-root x r f p e = record {
   below-others = λ y h k l. rw e (omega (arith, square-lt (2 * unitsOf r) (unitsOf y + unitsOf r) (omega arith), mul-mul-mul-comm 2 (unitsOf r) 2 (unitsOf r)));
   above-others = λ y h k l. rw e (omega (arith, square-lt (unitsOf y + unitsOf r) (2 * unitsOf r) (omega arith), mul-mul-mul-comm 2 (unitsOf r) 2 (unitsOf r)));
 }
+
+-- ---- for an x that may be zero
+-- the root of a finite number that is not below zero is one
+pub root-kept : (x : Float) → T (fits binary32 x) → T (clear x) → T (finite x) → T (clear (sqrtOf x)) × T (finite (sqrtOf x))
+unfolding clear rootable
+root-kept nan f c t = absurd c
+root-kept (inf s) f c t = absurd t
+root-kept (fin true m e) f c t = absurd c
+root-kept (fin false zero e) f c t = subst (λ (r : Float). T (clear r) × T (finite r)) (keeps (fin false zero e) tt (λ z. z)) (tt, tt)
+root-kept (fin false (suc m) e) f c t =
+    let p : T (positive (sqrtOf (fin false (suc m) e))) = root-positive (fin false (suc m) e) f (lt→ltb 0 (suc m) (zero-lt-suc m)) in
+    (clear-positive (sqrtOf (fin false (suc m) e)) p, positive-finite (sqrtOf (fin false (suc m) e)) p)
+  where
+    clear-positive : (y : Float) → T (positive y) → T (clear y)
+    clear-positive nan p = absurd p
+    clear-positive (inf s) p = absurd p
+    clear-positive (fin true m e) p = absurd p
+    clear-positive (fin false m e) p = tt
+
+-- and it is at most s, where x is at most a y that has the root s
+pub root-le : (x y s : Float) → T (fits binary32 x) → T (clear x) → T (finite x) → T (fits binary32 y) → T (positive y) → IsRoot y s → T (le x y) → T (le (sqrtOf x) s)
+unfolding clear rootable
+root-le nan y s f c t g p i l = absurd c
+root-le (inf b) y s f c t g p i l = absurd t
+root-le (fin true m e) y s f c t g p i l = absurd c
+root-le (fin false zero e) y s f c t g p i l =
+    subst (λ (r : Float). T (le r s)) (keeps (fin false zero e) tt (λ z. z))
+    (le-of-values (fin false zero e) s 0 1 (unitsOf s) (2 ^ 149) (lit< tt) (pow-pos 149) (refl, simp zero-mul) (own-units s (i .held) (i .above-zero)) (simp zero-mul zero-le))
+root-le (fin false (suc m) e) y s f c t g p i l =
+    let x = fin false (suc m) e in
+    let q : T (positive x) = lt→ltb 0 (suc m) (zero-lt-suc m) in
+    let r = is-root x f q in
+    let h : unitsOf x * 2 ^ 149 ≤ unitsOf y * 2 ^ 149 = values-of-le x y (unitsOf x) (2 ^ 149) (unitsOf y) (2 ^ 149) q p (own-units x f q) (own-units y g p) l in
+    le-of-values (sqrtOf x) s (unitsOf (sqrtOf x)) (2 ^ 149) (unitsOf s) (2 ^ 149) (pow-pos 149) (pow-pos 149) (own-units (sqrtOf x) (r .held) (r .above-zero)) (own-units s (i .held) (i .above-zero))
+    (mul-le-mul-right (2 ^ 149) (root-mono x y (sqrtOf x) s r i (le-of-mul-le-mul-right h (pow-pos 149))))

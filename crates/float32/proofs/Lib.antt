@@ -11,3 +11,4 @@ pub mod Signs
 pub mod Laws
 pub mod Answer
 mod Vectors
+pub mod Unique

@@ -7,6 +7,7 @@ use native.Mathlib.Nat.{mul-le-mul, mul-le-mul-right, add-mul, mul-add, mul-asso
 use native.Mathlib.Omega.{arith}
 use lib.Pow.{pow-mono, pow-pos, pow-add}
 use Rattle.float32.proofs.Squares.{square-next}
+use Rattle.float32.specs.Root.{middle}
 use Rattle.float32.specs.Parts.{Nearest}
 
 -- m * 2 ^ k at an exponent that is not below j is a multiple of 2 ^ j
@@ -65,14 +66,14 @@ pub square-lt : (a b : ℕ) → a < b → a * a < b * b
 square-lt a b h = let l : a + 1 ≤ b = omega arith in let m : (a + 1) * (a + 1) ≤ b * b = mul-le-mul l l in omega (arith, square-next a)
 
 -- below q = p + 1, where p has 24 digits
-down-by : (X q p j m k : ℕ) → q ≡ p + 1 → 2 ^ 23 ≤ p → q * q < X + q → m < 2 ^ 24 → m * 2 ^ k < q * 2 ^ j → (m * 2 ^ k + q * 2 ^ j) * (m * 2 ^ k + q * 2 ^ j) < 4 * (X * (2 ^ j * 2 ^ j))
+down-by : (X q p j m k : ℕ) → q ≡ p + 1 → 2 ^ 23 ≤ p → q * q < X + q → m < 2 ^ 24 → m * 2 ^ k < q * 2 ^ j → middle (m * 2 ^ k) (q * 2 ^ j) < 4 * (X * (2 ^ j * 2 ^ j))
 down-by X q p j m k e h a f g =
     let b : (p + 1) * (p + 1) < X + (p + 1) = rw e at a in
     let g′ : m * 2 ^ k < (p + 1) * 2 ^ j = rw e at g in
     let s = step-down p j m k h f g′ in
     let t : m * 2 ^ k + (p + 1) * 2 ^ j ≤ (2 * p + 1) * 2 ^ j = omega (arith, s, add-mul p 1 (2 ^ j), add-mul (2 * p) 1 (2 ^ j), mul-assoc 2 p (2 ^ j)) in
     let u = mul-le-mul t t in
-    let v : (m * 2 ^ k + (p + 1) * 2 ^ j) * (m * 2 ^ k + (p + 1) * 2 ^ j) < 4 * (X * (2 ^ j * 2 ^ j)) = omega (arith, u, above-square X p (2 ^ j * 2 ^ j) b (mul-pos (pow-pos j) (pow-pos j)), mul-mul-mul-comm (2 * p + 1) (2 ^ j) (2 * p + 1) (2 ^ j)) in
+    let v : middle (m * 2 ^ k) ((p + 1) * 2 ^ j) < 4 * (X * (2 ^ j * 2 ^ j)) = omega (arith, u, above-square X p (2 ^ j * 2 ^ j) b (mul-pos (pow-pos j) (pow-pos j)), mul-mul-mul-comm (2 * p + 1) (2 ^ j) (2 * p + 1) (2 ^ j)) in
     rw e v
 
 module _ (X q j : ℕ) (near : Nearest X q) (least : 2 ^ 46 ≤ X) (m k : ℕ) (fine : m < 2 ^ 24) where
@@ -80,7 +81,7 @@ module _ (X q j : ℕ) (near : Nearest X q) (least : 2 ^ 46 ≤ X) (m k : ℕ) (
   w-pos = mul-pos (pow-pos j) (pow-pos j)
 
   -- any other size that is larger is farther off: the root is below the middle of the two
-  pub up-is-farther : q * 2 ^ j < m * 2 ^ k → 4 * (X * (2 ^ j * 2 ^ j)) < (m * 2 ^ k + q * 2 ^ j) * (m * 2 ^ k + q * 2 ^ j)
+  pub up-is-farther : q * 2 ^ j < m * 2 ^ k → 4 * (X * (2 ^ j * 2 ^ j)) < middle (m * 2 ^ k) (q * 2 ^ j)
   up-is-farther g =
       let s = step-up q j m k (near .least) fine g in
       let t : (2 * q + 1) * 2 ^ j ≤ m * 2 ^ k + q * 2 ^ j = omega (arith, add-mul q 1 (2 ^ j), add-mul (2 * q) 1 (2 ^ j), mul-assoc 2 q (2 ^ j)) in
@@ -88,11 +89,11 @@ module _ (X q j : ℕ) (near : Nearest X q) (least : 2 ^ 46 ≤ X) (m k : ℕ) (
       omega (arith, below-square X q (2 ^ j * 2 ^ j) (near .below) w-pos, mul-mul-mul-comm (2 * q + 1) (2 ^ j) (2 * q + 1) (2 ^ j))
 
   -- and so is any that is smaller: the root is above the middle
-  pub down-is-farther : m * 2 ^ k < q * 2 ^ j → (m * 2 ^ k + q * 2 ^ j) * (m * 2 ^ k + q * 2 ^ j) < 4 * (X * (2 ^ j * 2 ^ j))
+  pub down-is-farther : m * 2 ^ k < q * 2 ^ j → middle (m * 2 ^ k) (q * 2 ^ j) < 4 * (X * (2 ^ j * 2 ^ j))
   down-is-farther g = ⊎-elim first later (eq-zero-or-pos (q - 2 ^ 23))
     where
       -- q is 2 ^ 23, and the root is q at least
-      first : q - 2 ^ 23 ≡ 0 → (m * 2 ^ k + q * 2 ^ j) * (m * 2 ^ k + q * 2 ^ j) < 4 * (X * (2 ^ j * 2 ^ j))
+      first : q - 2 ^ 23 ≡ 0 → middle (m * 2 ^ k) (q * 2 ^ j) < 4 * (X * (2 ^ j * 2 ^ j))
       first z =
           let l = near .least in
           let e : q ≡ 2 ^ 23 = omega arith in
@@ -101,12 +102,12 @@ module _ (X q j : ℕ) (near : Nearest X q) (least : 2 ^ 46 ≤ X) (m k : ℕ) (
           let b : (2 * q) * (2 * q) * (2 ^ j * 2 ^ j) ≤ 4 * X * (2 ^ j * 2 ^ j) = mul-le-mul-right (2 ^ j * 2 ^ j) a in
           omega (arith, square-lt (m * 2 ^ k + q * 2 ^ j) (2 * q * 2 ^ j) t, mul-mul-mul-comm (2 * q) (2 ^ j) (2 * q) (2 ^ j), mul-assoc 4 X (2 ^ j * 2 ^ j))
 
-      later : 0 < q - 2 ^ 23 → (m * 2 ^ k + q * 2 ^ j) * (m * 2 ^ k + q * 2 ^ j) < 4 * (X * (2 ^ j * 2 ^ j))
+      later : 0 < q - 2 ^ 23 → middle (m * 2 ^ k) (q * 2 ^ j) < 4 * (X * (2 ^ j * 2 ^ j))
       later z = let e : q ≡ (q - 1) + 1 = omega arith in down-by X q (q - 1) j m k e (omega arith) (near .above) fine g
 
 -- ---- how far off the nearest is, with N = X * w and R * R = q * q * w, for w = 4 ^ j
-middle : (q d : ℕ) → q ≡ d + 2 ^ 23 → 2 ^ 24 * q ≤ q * q + 2 ^ 46
-middle q d e = rw e (omega (arith, add-mul d (2 ^ 23) (d + 2 ^ 23), mul-add d d (2 ^ 23)))
+tangent : (q d : ℕ) → q ≡ d + 2 ^ 23 → 2 ^ 24 * q ≤ q * q + 2 ^ 46
+tangent q d e = rw e (omega (arith, add-mul d (2 ^ 23) (d + 2 ^ 23), mul-add d d (2 ^ 23)))
 
 module _ (X q w : ℕ) (near : Nearest X q) where
   -- √x / r is within 2 ^ -24 of 1, each side squared
@@ -121,7 +122,7 @@ module _ (X q w : ℕ) (near : Nearest X q) where
       let b = near .above in
       let l = near .least in
       let e : q ≡ (q - 2 ^ 23) + 2 ^ 23 = omega arith in
-      let h : (2 ^ 24 - 1) * (2 ^ 24 - 1) * (q * q) ≤ 2 ^ 48 * X = omega (arith, mul-le-mul-right q l, middle q (q - 2 ^ 23) e) in
+      let h : (2 ^ 24 - 1) * (2 ^ 24 - 1) * (q * q) ≤ 2 ^ 48 * X = omega (arith, mul-le-mul-right q l, tangent q (q - 2 ^ 23) e) in
       omega (arith, mul-le-mul-right w h, mul-assoc (2 ^ 48) X w, mul-assoc ((2 ^ 24 - 1) * (2 ^ 24 - 1)) (q * q) w)
 
   -- r * r is within r * r * 2 ^ -23 of x

@@ -45,9 +45,13 @@ clear (inf s) = not s
 clear (fin s m e) = not s
 
 -- ---- what it is to be the root, with no word of how it is found
--- r is the `f32` nearest to √x (document 01, "correctly rounded"): of r and any other y the root is on r's side of the middle, (r + y) / 2, each side doubled and squared. In units x is n * 2 ^ 149, n its size in units.
+-- twice the middle of a and b, squared
+abbrev pub middle : ℕ → ℕ → ℕ
+middle a b = (a + b) * (a + b)
+
+-- r is the `f32` nearest to √x (document 01, "correctly rounded"): of r and any other y the root is on r's side of the middle, each side doubled and squared. In units x is n * 2 ^ 149, n its size in units.
 pub record IsRoot (x r : Float) : Type 0 where
   pub held : T (fits binary32 r)
   pub above-zero : T (positive r)
-  pub below-others : (y : Float) → T (fits binary32 y) → T (positive y) → unitsOf r < unitsOf y → 4 * (unitsOf x * 2 ^ 149) < (unitsOf y + unitsOf r) * (unitsOf y + unitsOf r)
-  pub above-others : (y : Float) → T (fits binary32 y) → T (positive y) → unitsOf y < unitsOf r → (unitsOf y + unitsOf r) * (unitsOf y + unitsOf r) < 4 * (unitsOf x * 2 ^ 149)
+  pub below-others : (y : Float) → T (fits binary32 y) → T (positive y) → unitsOf r < unitsOf y → 4 * (unitsOf x * 2 ^ 149) < middle (unitsOf y) (unitsOf r)
+  pub above-others : (y : Float) → T (fits binary32 y) → T (positive y) → unitsOf y < unitsOf r → middle (unitsOf y) (unitsOf r) < 4 * (unitsOf x * 2 ^ 149)

@@ -11,13 +11,13 @@ use lib.Ieee.Fits.{sub-fits}
 use lib.Ieee.Positive.{num, den, positive, positive-finite, den-pos}
 use Rattle.exact.specs.Tests.{circle}
 use Rattle.exact.specs.Exact.{Exact, own, mulE, addE, subE, negE}
-use Rattle.exact.specs.Near.{near-own}
-use Rattle.exact.specs.Reach.{within}
-use Rattle.exact.specs.Ranks.{Abs, Nr, Leaf, leafA, addA, mulA, fine-ok, nr-mul, nr-add, nr-sub}
-use Rattle.exact.specs.Sizes.{own-size, own-over}
-use Rattle.exact.specs.Circle.{circle-leaf}
+use Rattle.exact.proofs.Near.{near-own}
+use Rattle.exact.proofs.Reach.{within}
+use Rattle.exact.proofs.Ranks.{Abs, Nr, Leaf, leafA, addA, mulA, fine-ok, nr-mul, nr-add, nr-sub}
+use Rattle.exact.proofs.Sizes.{own-size, own-over}
+use Rattle.exact.proofs.Circle.{circle-leaf}
 use Rattle.float32.specs.Root.{sqrtOf}
-use Rattle.geocentric.specs.Geo.{one, wgs84-a, wgs84-e2, flatness, curve, far, near, heightOk}
+use Rattle.geocentric.specs.Geo.{one, wgs84-a, wgs84-e2, flatness, curve, cosine-factor, sine-factor, heightOk}
 use Rattle.geocentric.proofs.Fractions.{mk, mk-eq, own-above, Between, of-within, held, at-most}
 use Rattle.geocentric.proofs.Squares.{one-part, square-plus}
 use Rattle.geocentric.proofs.Root.{root}
@@ -157,9 +157,9 @@ raised a b a' b' f h w v t k l A =
             → 1 * 1048576 * (N + P) + 1 * (8 * (N + P + M) + O) ≤ b' * 1048576 * O + 1 * 1048576 * M
         go N P M O z x y m p = omega arith
 
-pub far-between : (h s c : Float) → T (heightOk h) → T (circle s c) → Between 6326000 7268000 1 (far h s)
-unfolding far
-far-between h s c t o = raised 6371000 6417000 6326000 7268000 (curve s) h (curve-between s c o) (height h t) (lit≤ tt) (lit≤ tt) (lit≤ tt) (lit< tt)
+pub cosine-factor-between : (h s c : Float) → T (heightOk h) → T (circle s c) → Between 6326000 7268000 1 (cosine-factor h s)
+unfolding cosine-factor
+cosine-factor-between h s c t o = raised 6371000 6417000 6326000 7268000 (curve s) h (curve-between s c o) (height h t) (lit≤ tt) (lit≤ tt) (lit≤ tt) (lit< tt)
 
 shrunk : (s c : Float) → T (circle s c) → Between 6328000 6375000 1 (mul binary32 (curve s) (sub binary32 one wgs84-e2))
 unfolding held
@@ -175,6 +175,6 @@ shrunk s c o =
     b : (n d : ℕ) → n * 1 ≤ 6417000 * d → n * (16664903 * 1) * 1 ≤ 6375000 * (d * 16777216)
     b n d h = omega arith
 
-pub near-between : (h s c : Float) → T (heightOk h) → T (circle s c) → Between 6326000 7268000 1 (near h s)
-unfolding near
-near-between h s c t o = raised 6328000 6375000 6326000 7268000 (mul binary32 (curve s) (sub binary32 one wgs84-e2)) h (shrunk s c o) (height h t) (lit≤ tt) (lit≤ tt) (lit≤ tt) (lit< tt)
+pub sine-factor-between : (h s c : Float) → T (heightOk h) → T (circle s c) → Between 6326000 7268000 1 (sine-factor h s)
+unfolding sine-factor
+sine-factor-between h s c t o = raised 6328000 6375000 6326000 7268000 (mul binary32 (curve s) (sub binary32 one wgs84-e2)) h (shrunk s c o) (height h t) (lit≤ tt) (lit≤ tt) (lit≤ tt) (lit< tt)

@@ -11,10 +11,10 @@ use lib.Ieee.Positive.{num, den, positive, positive-finite, den-pos, le→cross,
 use lib.Ieee.Order.{round-mono}
 use lib.Ieee.Scale.{finite}
 use Rattle.exact.specs.Exact.{Exact, own, size}
-use Rattle.exact.specs.Within.{Within}
-use Rattle.exact.specs.Near.{near-own}
-use Rattle.exact.specs.Ranks.{Leaf}
-use Rattle.exact.specs.Sizes.{AtMost, own-size, own-over}
+use Rattle.exact.specs.Within.{Within, distance}
+use Rattle.exact.proofs.Near.{near-own}
+use Rattle.exact.proofs.Ranks.{Leaf}
+use Rattle.exact.proofs.Sizes.{AtMost, own-size, own-over}
 
 -- ---- exact numbers by their three parts
 abbrev pub mk : ℕ → ℕ → ℕ → Exact
@@ -65,20 +65,20 @@ above-zero (fin true m e) a c A t h = let p = mul-pos A (down-pos e) in absurd (
 above-zero (fin false zero e) a c A t h = let p = mul-pos A (down-pos e) in absurd (omega (arith, zero-mul (up e)))
 above-zero (fin false (suc m) e) a c A t h = lt→ltb 0 (suc m) (zero-lt-suc m)
 
-from-low : (a c fp fm fo P Q O : ℕ) → 0 < O → (fm * O + P * fo) * 1048576 ≤ (fp * O + Q * fo) * 1048576 + 8 * (P + Q) * fo + fo * O
+from-low : (a c fp fm fo P Q O : ℕ) → 0 < O → (fm * O + P * fo) * 1048576 ≤ (fp * O + Q * fo) * 1048576 + distance (P + Q) O * fo
     → a * 1048576 * O + c * (8 * (P + Q) + O) + c * 1048576 * Q ≤ c * 1048576 * P → fm * c + a * fo ≤ fp * c
 from-low a c fp fm fo P Q O OP h k = le-of-mul-le-mul-right (mid (mul-le-mul-left c h) (mul-le-mul-right fo k)) (mul-pos OP big)
   where
-    mid : c * ((fm * O + P * fo) * 1048576) ≤ c * ((fp * O + Q * fo) * 1048576 + 8 * (P + Q) * fo + fo * O)
+    mid : c * ((fm * O + P * fo) * 1048576) ≤ c * ((fp * O + Q * fo) * 1048576 + distance (P + Q) O * fo)
         → (a * 1048576 * O + c * (8 * (P + Q) + O) + c * 1048576 * Q) * fo ≤ c * 1048576 * P * fo
         → (fm * c + a * fo) * (O * 1048576) ≤ fp * c * (O * 1048576)
     mid x y = omega arith
 
-from-high : (b c fp fm fo P Q O : ℕ) → 0 < O → (fp * O + Q * fo) * 1048576 ≤ (fm * O + P * fo) * 1048576 + 8 * (P + Q) * fo + fo * O
+from-high : (b c fp fm fo P Q O : ℕ) → 0 < O → (fp * O + Q * fo) * 1048576 ≤ (fm * O + P * fo) * 1048576 + distance (P + Q) O * fo
     → c * 1048576 * P + c * (8 * (P + Q) + O) ≤ b * 1048576 * O + c * 1048576 * Q → fp * c ≤ b * fo + fm * c
 from-high b c fp fm fo P Q O OP h k = le-of-mul-le-mul-right (mid (mul-le-mul-left c h) (mul-le-mul-right fo k)) (mul-pos OP big)
   where
-    mid : c * ((fp * O + Q * fo) * 1048576) ≤ c * ((fm * O + P * fo) * 1048576 + 8 * (P + Q) * fo + fo * O)
+    mid : c * ((fp * O + Q * fo) * 1048576) ≤ c * ((fm * O + P * fo) * 1048576 + distance (P + Q) O * fo)
         → (c * 1048576 * P + c * (8 * (P + Q) + O)) * fo ≤ (b * 1048576 * O + c * 1048576 * Q) * fo
         → fp * c * (O * 1048576) ≤ (b * fo + fm * c) * (O * 1048576)
     mid x y = omega arith
@@ -105,11 +105,11 @@ pub off : (f : Float) (N D : ℕ) → T (positive f) → Within f (mk N 0 D) (si
 off f N D p w = go (own-above f p) (w .above) (w .below)
   where
     go : own f ≡ mk (num f) 0 (den f)
-        → (own f .plus * D + 0 * own f .over) * 1048576 ≤ (own f .minus * D + N * own f .over) * 1048576 + 8 * (N + 0) * own f .over + own f .over * D
-        → (own f .minus * D + N * own f .over) * 1048576 ≤ (own f .plus * D + 0 * own f .over) * 1048576 + 8 * (N + 0) * own f .over + own f .over * D → Off f N D
+        → (own f .plus * D + 0 * own f .over) * 1048576 ≤ (own f .minus * D + N * own f .over) * 1048576 + distance (N + 0) D * own f .over
+        → (own f .minus * D + N * own f .over) * 1048576 ≤ (own f .plus * D + 0 * own f .over) * 1048576 + distance (N + 0) D * own f .over → Off f N D
     go e a b =
-        let a2 : (num f * D + 0 * den f) * 1048576 ≤ (0 * D + N * den f) * 1048576 + 8 * (N + 0) * den f + den f * D = rw e at a in
-        let b2 : (0 * D + N * den f) * 1048576 ≤ (num f * D + 0 * den f) * 1048576 + 8 * (N + 0) * den f + den f * D = rw e at b in
+        let a2 : (num f * D + 0 * den f) * 1048576 ≤ (0 * D + N * den f) * 1048576 + distance (N + 0) D * den f = rw e at a in
+        let b2 : (0 * D + N * den f) * 1048576 ≤ (num f * D + 0 * den f) * 1048576 + distance (N + 0) D * den f = rw e at b in
         record { up = omega arith; down = omega arith }
 
 -- ---- from a fraction that is rounded

@@ -1,10 +1,9 @@
 -- What the two tests say of the inputs that are lent: the exact squares of a pair on the circle add up to 1 within 2 ^ -16; a height's size. Assumes nothing.
-use mathlib.Core.Path.{sym, subst}
+use mathlib.Core.Path.{subst}
 use Prim.Native.Nat.{ℕ, _+_, _*_, _≤_, _<_, zero-le}
-use native.Mathlib.Nat.{le-trans, le-of-eq, mul-one, mul-le-mul-right, le-of-mul-le-mul-right}
+use native.Mathlib.Nat.{mul-le-mul-right, le-of-mul-le-mul-right}
 use native.Mathlib.Omega.{arith}
 use mathlib.Core.Bool.{true, false}
-use lib.IntN.{pos}
 use lib.Dec.{T, lit≤}
 use lib.Ieee.{Float, nan, inf, fin, up, down, le, lt, eq, neg, ofBits}
 use lib.Ieee.Fits.{and-l, and-r}
@@ -12,11 +11,11 @@ use lib.Ieee.Positive.{num, den, positive, den-pos, le→cross, between}
 use lib.Ieee.Scale.{finite}
 use Rattle.exact.specs.Tests.{circle}
 use Rattle.exact.specs.Exact.{Exact, own}
-use Rattle.exact.specs.Reach.{within}
-use Rattle.exact.specs.Ranks.{Abs, Nr, leafA, addA, mulA, fine-ok, nr-mul, nr-add}
-use Rattle.exact.specs.Sizes.{AtMost, or-le, or-ge}
-use Rattle.exact.specs.Circle.{circle-bottom, circle-top, circled, circle-leaf}
-use Rattle.geocentric.specs.Geo.{squares, heightOk}
+use Rattle.exact.proofs.Reach.{within}
+use Rattle.exact.proofs.Ranks.{Abs, Nr, leafA, addA, mulA, fine-ok, nr-mul, nr-add}
+use Rattle.exact.proofs.Sizes.{AtMost, or-le, or-ge}
+use Rattle.exact.proofs.Circle.{circle-bottom, circle-top, circled, circle-leaf}
+use Rattle.geocentric.specs.Geo.{squares, lowest, highest, heightOk}
 use Rattle.geocentric.proofs.Fractions.{mk, off}
 use Rattle.geocentric.proofs.Squares.{sum-own}
 
@@ -70,18 +69,16 @@ pub record Signed (a b : ℕ) (f : Float) : Type 0 where
   pub back : own f .minus ≤ a * own f .over
   pub forth : own f .plus ≤ b * own f .over
 
--- the two limits as floats: -125 * 2 ^ 3 and 53125 * 2 ^ 4
-height-in : (h : Float) → T (le (fin true 125 (pos 3)) h) → T (le h (fin false 53125 (pos 4))) → Signed 1000 850000 h
-unfolding le lt eq own
+height-in : (h : Float) → T (le lowest h) → T (le h highest) → Signed 1000 850000 h
+unfolding le lt eq own neg ofBits
 height-in nan p q = absurd p
 height-in (inf false) p q = absurd q
 height-in (inf true) p q = absurd p
-height-in (fin false k c) p q = record { is-finite = tt; back = zero-le; forth = le-trans (le-of-eq (sym (mul-one (k * up c)))) (or-le (k * up c * 1) (53125 * 16 * down c) true q) }
-height-in (fin true k c) p q = record { is-finite = tt; back = le-trans (le-of-eq (sym (mul-one (k * up c)))) (or-ge (125 * 8 * down c) (k * up c * 1) true p); forth = zero-le }
+height-in (fin false k c) p q = record { is-finite = tt; back = zero-le; forth = omega (arith, or-le (k * up c * den highest) (num highest * down c) true q) }
+height-in (fin true k c) p q = record { is-finite = tt; back = omega (arith, or-ge (num lowest * down c) (k * up c * den lowest) true p); forth = zero-le }
 
 pub height : (h : Float) → T (heightOk h) → Signed 1000 850000 h
-unfolding ofBits neg
-height h t = height-in h (and-l (le (fin true 125 (pos 3)) h) _ t) (and-r (le (fin true 125 (pos 3)) h) (le h (fin false 53125 (pos 4))) t)
+height h t = height-in h (and-l (le lowest h) (le h highest) t) (and-r (le lowest h) (le h highest) t)
 
 pub height-size : (h : Float) → Signed 1000 850000 h → AtMost 851000 h
 height-size h w = go (own h .plus) (own h .minus) (own h .over) (w .back) (w .forth)

@@ -1,4 +1,4 @@
--- `Laws` is what other crates cite. The rest lead to it; `Vectors` stands by itself.
+-- `Laws` is what other crates cite. The rest lead to it; `Flattening` and `Vectors` stand by themselves.
 mod Fractions
 mod Root
 mod Steps
@@ -10,4 +10,6 @@ mod Curve
 mod Radius
 mod Signs
 pub mod Laws
+pub mod Flattening
 mod Vectors
+pub mod Unique

@@ -11,12 +11,12 @@ use lib.Ieee.Positive.{num, den, positive, den-pos, cross→le, positive-finite}
 use lib.Ieee.Scale.{finite}
 use Rattle.exact.specs.Tests.{circle}
 use Rattle.exact.specs.Exact.{Exact, own, mulE, addE, invE}
-use Rattle.exact.specs.Frac.{by-le}
-use Rattle.exact.specs.Near.{near-own, near-div}
-use Rattle.exact.specs.Reach.{within}
-use Rattle.exact.specs.Ranks.{Abs, Nr, leafA, addA, mulA, fine-ok, nr-mul, nr-add, fine}
-use Rattle.exact.specs.Sizes.{AtMost}
-use Rattle.exact.specs.Circle.{circle-bottom, circle-top, circle-of}
+use Rattle.exact.proofs.Frac.{by-le}
+use Rattle.exact.proofs.Near.{near-own, near-div}
+use Rattle.exact.proofs.Reach.{within}
+use Rattle.exact.proofs.Ranks.{Abs, Nr, leafA, addA, mulA, fine-ok, nr-mul, nr-add, fine}
+use Rattle.exact.proofs.Sizes.{AtMost}
+use Rattle.exact.proofs.Circle.{circle-bottom, circle-top, circle-of}
 use Rattle.float32.proofs.Laws.{is-root}
 use Rattle.geocentric.specs.Geo.{squares, lengthOf}
 use Rattle.geocentric.proofs.Fractions.{mk, mk-eq, num-pos, Between, of-within, off}

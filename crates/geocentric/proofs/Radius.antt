@@ -12,11 +12,11 @@ use lib.Ieee.Positive.{num, den, positive, den-pos}
 use lib.Ieee.Scale.{finite}
 use Rattle.exact.specs.Tests.{circle}
 use Rattle.exact.specs.Exact.{Exact, own, mulE, addE}
-use Rattle.exact.specs.Frac.{by-le}
-use Rattle.exact.specs.Reach.{within, near-size}
-use Rattle.exact.specs.Ranks.{Abs, Nr, leafA, addA, mulA, fine-ok, nr-mul, nr-add}
-use Rattle.exact.specs.Sizes.{AtMost}
-use Rattle.exact.specs.Circle.{circle-leaf}
+use Rattle.exact.proofs.Frac.{by-le}
+use Rattle.exact.proofs.Reach.{within, near-size}
+use Rattle.exact.proofs.Ranks.{Abs, Nr, leafA, addA, mulA, fine-ok, nr-mul, nr-add}
+use Rattle.exact.proofs.Sizes.{AtMost}
+use Rattle.exact.proofs.Circle.{circle-leaf}
 use Rattle.geocentric.specs.Geo.{wmm-a, squares, lengthOf, ratioTo}
 use Rattle.geocentric.proofs.Fractions.{mk, mk-eq, own-above, Between, of-within, held, leaf-of}
 use Rattle.geocentric.proofs.Squares.{square-of, add-plain}

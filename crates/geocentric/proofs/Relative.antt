@@ -10,9 +10,9 @@ use lib.Pow.{pow-pos}
 use lib.Ieee.{Float, nan, inf, fin}
 use lib.Ieee.Fits.{and-l, and-r}
 use lib.Ieee.Positive.{num, den, positive}
-use Rattle.exact.specs.Frac.{by-le}
-use Rattle.exact.specs.Ops.{Is}
-use Rattle.exact.specs.Near.{Near, lo, hi, lo-pos}
+use Rattle.exact.proofs.Frac.{by-le}
+use Rattle.exact.proofs.Ops.{Is}
+use Rattle.exact.proofs.Near.{Near, lo, hi, lo-pos}
 use Rattle.geocentric.proofs.Fractions.{mk}
 
 is-above : (f : Float) (p q d : ℕ) → T (positive f) → Is f p q d → p * den f ≡ q * den f + num f * d

@@ -7,16 +7,17 @@ use native.Mathlib.Omega.{arith}
 use mathlib.Core.Bool.{Bool, true, false, not}
 use lib.IntN.{ℤ, pos, negsuc}
 use lib.Dec.{T, lt→ltb, nltb→le, lit≤, lit<}
-use lib.Ieee.{Float, nan, inf, fin, binary32, up, down, unlike, round, mul, div, le, lt, eq, neg}
+use lib.Ieee.{Float, nan, inf, fin, binary32, up, down, unlike, round, mul, div, le, lt, eq, neg, ofBits}
 use lib.Ieee.Fits.{down-pos}
 use lib.Ieee.Positive.{num, den, positive, den-pos}
 use lib.Ieee.Order.{round-mono}
 use lib.Ieee.Scale.{finite}
 use Rattle.exact.specs.Tests.{abs}
-use Rattle.exact.specs.Sizes.{or-le, or-ge, own-size, own-over}
-use Rattle.exact.specs.Range.{round-neg, round-fit, Holds}
+use Rattle.exact.proofs.Sizes.{or-le, or-ge, own-size, own-over}
+use Rattle.exact.proofs.Range.{round-neg, round-fit, Holds}
 use Rattle.float32.specs.Root.{clear}
 use Rattle.float32.proofs.Signs.{clear-round}
+use Rattle.geocentric.specs.Geo.{beyond-pole}
 use Rattle.geocentric.proofs.Fractions.{num-pos}
 use Rattle.geocentric.proofs.Steps.{sign, div-at}
 
@@ -120,15 +121,12 @@ above-threshold (fin false zero e) f c h = absurd (go (zero * up e) (down e) (do
 above-threshold (fin false (suc m) e) f c h = lt→ltb 0 (suc m) (zero-lt-suc m)
 
 -- ---- both
--- -2 ^ -20
-abbrev pub front : Float
-front = fin true 1 (negsuc 19)
+-- a cosine below zero that is accepted is at most 2 ^ -20 in size
+behind-size : (m : ℕ) (e : ℤ) → T (le beyond-pole (fin true m e)) → m * up e * 1048576 ≤ 1 * down e
+unfolding le lt eq neg ofBits
+behind-size m e h = omega (arith, or-ge (num beyond-pole * down e) (m * up e * den beyond-pole) true h)
 
-front-size : (m : ℕ) (e : ℤ) → T (le front (fin true m e)) → m * up e * 1048576 ≤ 1 * down e
-unfolding le lt eq
-front-size m e h = or-ge (1 * 1 * down e) (m * up e * 1048576) true h
-
-pub sine-above : (q c r : Float) → T (positive q) → num q * 1 ≤ 7268000 * den q → T (positive r) → 6290000 * den r ≤ num r * 1 → T (le front c)
+pub sine-above : (q c r : Float) → T (positive q) → num q * 1 ≤ 7268000 * den q → T (positive r) → 6290000 * den r ≤ num r * 1 → T (le beyond-pole c)
     → T (finite c) → T (finite (mul binary32 q c)) → T (finite (div binary32 (mul binary32 q c) r)) → T (not (lt (abs (div binary32 (mul binary32 q c) r)) threshold))
     → T (positive (div binary32 (mul binary32 q c) r))
 sine-above q nan r pq a pr b f fc fp fs g = absurd fc
@@ -138,7 +136,7 @@ sine-above q (fin false m e) r pq a pr b f fc fp fs g =
     above-threshold (div binary32 p r) fs (clear-div p r fp (clear-mul q (fin false m e) pq tt (unfold clear in tt)) pr) g
 sine-above q (fin true m e) r pq a pr b f fc fp fs g =
     let p = mul binary32 q (fin true m e) in
-    absurd (contra (lt (abs (div binary32 p r)) threshold) (tiny-quotient p r fp pr (tiny-product q m e pq a (front-size m e f)) b) g)
+    absurd (contra (lt (abs (div binary32 p r)) threshold) (tiny-quotient p r fp pr (tiny-product q m e pq a (behind-size m e f)) b) g)
   where
     contra : (b : Bool) → T b → T (not b) → ⊥
     contra true t f = f

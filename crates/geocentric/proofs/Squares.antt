@@ -8,7 +8,7 @@ use lib.Dec.{T}
 use lib.Ieee.{Float, nan, inf, fin, up}
 use lib.Ieee.Positive.{num, den, positive}
 use Rattle.exact.specs.Exact.{Exact, own, mulE, addE, invE}
-use Rattle.exact.specs.Sizes.{own-size, own-over}
+use Rattle.exact.proofs.Sizes.{own-size, own-over}
 use Rattle.geocentric.proofs.Fractions.{mk, mk-eq, own-above}
 
 pub one-part : (f : Float) → own f .plus * own f .minus ≡ 0

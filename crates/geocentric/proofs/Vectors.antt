@@ -6,7 +6,7 @@ use lib.Dec.{T, eqb}
 use lib.Ieee.{binary32, ofBits, toBits, neg, le, lt, eq, add, sub, mul, div}
 use Rattle.exact.specs.Tests.{circle}
 use Rattle.float32.specs.Root.{sqrtOf}
-use Rattle.geocentric.specs.Geo.{flatness, curve, far, near, cylinder, axis, radiusOf, cosOf, sinOf, ratioOf, heightOk, latitudeOk}
+use Rattle.geocentric.specs.Geo.{flatness, curve, cosine-factor, sine-factor, cylinder, axis, radiusOf, cosOf, sinOf, ratioOf, heightOk, latitudeOk}
 
 record Vector : Type 0 where
   h : ℕ
@@ -53,7 +53,7 @@ vectors =
     []
 
 all-met : T (all vectors)
-unfolding all meets vectors v radiusOf cosOf sinOf ratioOf flatness curve far near cylinder axis sqrtOf ofBits toBits add sub mul div
+unfolding all meets vectors v radiusOf cosOf sinOf ratioOf flatness curve cosine-factor sine-factor cylinder axis sqrtOf ofBits toBits add sub mul div
 all-met = tt
 
 -- the equator at sea level, and a cosine of -2 ^ -20 at the pole, 850 km up, are accepted

@@ -14,7 +14,11 @@ one = ofBits binary32 0x3f800000
 abbrev pub wgs84-a : Float
 wgs84-a = ofBits binary32 0x4ac2a532
 
--- WGS84_E2, the first eccentricity squared
+-- WGS84_F, the flattening: 1 / 298.257223563
+abbrev pub wgs84-f : Float
+wgs84-f = ofBits binary32 0x3b5bbad4
+
+-- WGS84_E2, the first eccentricity squared: F · (2 - F)
 abbrev pub wgs84-e2 : Float
 wgs84-e2 = ofBits binary32 0x3bdb5c88
 
@@ -32,20 +36,20 @@ unfoldable pub curve : Float → Float
 curve s = div binary32 wgs84-a (sqrtOf (flatness s))
 
 -- what the cosine is multiplied by
-unfoldable pub far : Float → Float → Float
-far h s = add binary32 (curve s) h
+unfoldable pub cosine-factor : Float → Float → Float
+cosine-factor h s = add binary32 (curve s) h
 
 -- what the sine is multiplied by
-unfoldable pub near : Float → Float → Float
-near h s = add binary32 (mul binary32 (curve s) (sub binary32 one wgs84-e2)) h
+unfoldable pub sine-factor : Float → Float → Float
+sine-factor h s = add binary32 (mul binary32 (curve s) (sub binary32 one wgs84-e2)) h
 
 -- the distance from the earth's axis, `p`
 unfoldable pub cylinder : Float → Float → Float → Float
-cylinder h s c = mul binary32 (far h s) c
+cylinder h s c = mul binary32 (cosine-factor h s) c
 
 -- the height along the earth's axis, `z`
 unfoldable pub axis : Float → Float → Float
-axis h s = mul binary32 (near h s) s
+axis h s = mul binary32 (sine-factor h s) s
 
 -- p * p + z * z
 abbrev pub squares : Float → Float → Float
@@ -79,10 +83,22 @@ unfoldable pub ratioOf : Float → Float → Float → Float
 ratioOf h s c = ratioTo (radiusOf h s c)
 
 -- ---- what is accepted
+-- -1000 m
+abbrev pub lowest : Float
+lowest = neg (ofBits binary32 0x447a0000)
+
+-- 850000 m
+abbrev pub highest : Float
+highest = ofBits binary32 0x494f8500
+
+-- -2 ^ -20
+abbrev pub beyond-pole : Float
+beyond-pole = neg (ofBits binary32 0x35800000)
+
 -- refusal 1: finite, and from -1000 to 850000 m. `between` is false at a NaN and at an infinity, so a height that passes is finite
 abbrev pub heightOk : Float → Bool
-heightOk h = between (neg (ofBits binary32 0x447a0000)) (ofBits binary32 0x494f8500) h
+heightOk h = between lowest highest h
 
 -- refusal 2: on the circle, and the cosine is at least -2 ^ -20
 abbrev pub latitudeOk : Float → Float → Bool
-latitudeOk s c = circle s c && le (neg (ofBits binary32 0x35800000)) c
+latitudeOk s c = circle s c && le beyond-pole c

@@ -3,18 +3,28 @@
 use guess::near_one;
 use guess::near_radius;
 ghost use mathlib.Core.Path.{_≡_};
-ghost use Rattle.geocentric.specs.Geo.{geocentricOf, ratioTo};
+ghost use Rattle.geocentric.specs.Geo.{wgs84-e2, geocentricOf, ratioTo};
 
 mod guess;
 
-// The ellipsoid WGS 84: the longer half axis, 6378137 m, and the first eccentricity squared. The
-// latter is F * (2 - F) as the source rounds it, with F the f32 nearest to 1 / 298.257223563.
+// The ellipsoid WGS 84: the longer half axis, 6378137 m, the flattening, the f32 nearest to
+// 1 / 298.257223563, and the first eccentricity squared.
 pub const WGS84_A: f32 = f32::from_bits(0x4ac2a532);
+
+pub const WGS84_F: f32 = f32::from_bits(0x3b5bbad4);
 
 pub const WGS84_E2: f32 = f32::from_bits(0x3bdb5c88);
 
 // The reference radius of the model, 6371200 m.
 pub const WMM_A: f32 = f32::from_bits(0x4ac26f00);
+
+// The eccentricity squared by the source's formula. Nothing calls it: its contract says that the
+// two constants belong together.
+fn eccentricity_squared() -> f32
+    ensures { λ r. ⌜ r ≡ wgs84-e2 ⌝ }
+{
+    WGS84_F * (2.0 - WGS84_F)
+}
 
 // A place as the model sees it: metres from the earth's centre, and the colatitude.
 pub struct Geocentric {

@@ -7,10 +7,11 @@ use native.Mathlib.Omega.{arith}
 use lib.IntN.{ℤ, pos, negsuc, negℤ, _*ℤ_, _-ℤ_}
 use lib.Signed.{ltZ}
 use borrow.Author.Tests.{eqb-true, ltb-false, le-ltb}
-use Rattle.refusals.specs.Paper.{answered, unless, answered-one}
+use Rattle.refusals.specs.Paper.{answered, unless}
+use Rattle.refusals.proofs.Laws.{answered-one}
 use Rattle.models.specs.declared.epochs.EpochOffset.{EpochOffset}
 use Rattle.models.specs.Calendar.{leapYear, daysInYear}
-use Rattle.models.specs.Epochs.{wrongDay, wrongEpoch, dayExists, epochYear, isYear, knownEpoch, offsetOf, naturalOffset, epochOffset, epochSays}
+use Rattle.models.specs.Epochs.{wrongDay, wrongEpoch, dayExists, EPOCH-YEARS, epochYear, isYear, knownEpoch, offsetOf, naturalOffset, epochOffset, epochSays}
 
 -- the year y, its epoch year ep, the day d and the year's length n
 pub record Dated (year day : ℤ) (e : EpochOffset) : Type 0 where
@@ -56,23 +57,23 @@ unfolding knownEpoch
 below-zero zero h = never (cc)
 below-zero (suc r) h = never (cc)
 
-neg-five : (r : ℕ) → negℤ (pos r) *ℤ pos 5 ≡ negℤ (pos (r * 5))
-neg-five zero = refl
-neg-five (suc r) = refl
+neg-epochs : (r : ℕ) → negℤ (pos r) *ℤ pos EPOCH-YEARS ≡ negℤ (pos (r * EPOCH-YEARS))
+neg-epochs zero = refl
+neg-epochs (suc r) = refl
 
 in-epoch : (year : ℤ) → knownEpoch (epochYear year) ≡ true → InEpoch year
 unfolding epochYear knownEpoch
 in-epoch (pos y) h =
     record {
       y = y;
-      ep = y / 5 * 5;
+      ep = y / EPOCH-YEARS * EPOCH-YEARS;
       year-is = refl;
       epoch-is = refl;
-      known = which (y / 5 * 5) (either (isYear 2020 (pos (y / 5 * 5))) (isYear 2025 (pos (y / 5 * 5))) h);
+      known = which (y / EPOCH-YEARS * EPOCH-YEARS) (either (isYear 2020 (pos (y / EPOCH-YEARS * EPOCH-YEARS))) (isYear 2025 (pos (y / EPOCH-YEARS * EPOCH-YEARS))) h);
       since = omega arith;
       until = omega arith;
     }
-in-epoch (negsuc y) h = absurd (below-zero (suc y / 5 * 5) (rw (neg-five (suc y / 5)) at h))
+in-epoch (negsuc y) h = absurd (below-zero (suc y / EPOCH-YEARS * EPOCH-YEARS) (rw (neg-epochs (suc y / EPOCH-YEARS)) at h))
 
 -- ---- the day
 record InYear (year day : ℤ) : Type 0 where

@@ -1,12 +1,13 @@
 -- The entry Epoch. Document 01, module 8 and refusals 4 and 5. Definitions only.
 use mathlib.Core.Bool.{Bool, false, not, _||_}
-use mathlib.Core.List.{[], _∷_}
 use Prim.Native.Nat.{ℕ, _-_}
 use lib.Dec.{eqb}
 use lib.IntN.{ℤ, pos, negsuc, _*ℤ_, _-ℤ_}
 use lib.Signed.{ltZ, quotZ}
 use lib.Ieee.{Float, binary32, ofInt, add, div}
-use Rattle.refusals.specs.Paper.{Paper, answered, refused, paper, unless}
+use Rattle.refusals.specs.declared.Refusal.{Refusal}
+use Rattle.refusals.specs.declared.Refusal.the-variants.{DayOfYear, EpochYear}
+use Rattle.refusals.specs.Paper.{Paper, answered, paper, unless}
 use Rattle.models.specs.declared.epochs.EpochOffset.{EpochOffset}
 use Rattle.models.specs.declared.epochs.EpochAnswer.{EpochAnswer}
 use Rattle.models.specs.declared.epochs.EpochAnswer.the-variants.{Epoch, Refused}
@@ -14,19 +15,26 @@ use Rattle.models.specs.Calendar.{daysInYear}
 
 -- refusal 4
 abbrev pub wrongDay : {A : Type 0} → Paper A
-wrongDay = refused 4 [] []
+wrongDay = paper DayOfYear
 
 -- refusal 5, with its first and its last day
+abbrev pub unknownEpoch : Refusal
+unknownEpoch = EpochYear (record { year = pos 2020; «day_of_year» = pos 1 }) (record { year = pos 2029; «day_of_year» = pos 365 })
+
 abbrev pub wrongEpoch : {A : Type 0} → Paper A
-wrongEpoch = refused 5 [] (pos 2020 ∷ pos 1 ∷ pos 2029 ∷ pos 365 ∷ [])
+wrongEpoch = paper unknownEpoch
 
 -- the day is neither below 1 nor above that year's length
 unfoldable pub dayExists : (year day : ℤ) → Bool
 dayExists year day = not (ltZ day (pos 1) || ltZ (pos (daysInYear year)) day)
 
+-- how many years an epoch has
+abbrev pub EPOCH-YEARS : ℕ
+EPOCH-YEARS = 5
+
 -- year / 5 · 5, the division cut toward zero
 unfoldable pub epochYear : ℤ → ℤ
-epochYear year = quotZ year (pos 5) *ℤ pos 5
+epochYear year = quotZ year (pos EPOCH-YEARS) *ℤ pos EPOCH-YEARS
 
 -- the year is n
 abbrev pub isYear : ℕ → ℤ → Bool

@@ -4,7 +4,8 @@ use mathlib.Core.Bool.{Bool, true, false, cond}
 use mathlib.Core.Logic.{⊎-elim}
 use lib.IntN.{ℤ, pos, +ℤ-invr}
 use lib.Ieee.{fin, ofInt, add, div}
-use Rattle.refusals.specs.Paper.{answered, paper-one, no-answer, answered-one}
+use Rattle.refusals.specs.Paper.{answered}
+use Rattle.refusals.proofs.Laws.{paper-one, no-answer, answered-one}
 use Rattle.models.specs.declared.epochs.EpochOffset.{EpochOffset}
 use Rattle.models.specs.declared.epochs.EpochAnswer.{EpochAnswer}
 use Rattle.models.specs.declared.epochs.EpochAnswer.the-variants.{Epoch, Refused}

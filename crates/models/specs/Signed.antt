@@ -3,15 +3,16 @@ use mathlib.Core.Path.{_≡_, refl, sym, _∙_}
 use Prim.Native.Nat.{ℕ, zero, suc, _-_, _*_, _/_, _%_, _^_, _<_, _≤_, zero-le}
 use native.Mathlib.Nat.{le-of-suc-le-suc, div-le-self, div-mul-le-self, zero-mul}
 use native.Mathlib.Omega.{arith}
+use mathlib.Core.Bool.{true, false}
 use lib.Dec.{eqb}
 use lib.IntN.{ℤ, pos, negsuc, negℤ, _*ℤ_, negsuc-*ℤ-pos}
 use lib.Signed.{mag, quotZ, remZ, mag-rem}
-use borrow.Author.Tests.{ne-eqb}
+use borrow.Author.Tests.{eq-eqb, ne-eqb}
 use mir.Syntax.{w32}
 use mir.Val.{SFits, ofZ, toZ}
 use mir.ValLaws.{toZ-ofZ, sfits-le}
 use Rattle.models.specs.Calendar.{divides}
-use Rattle.models.specs.Epochs.{epochYear, isYear}
+use Rattle.models.specs.Epochs.{EPOCH-YEARS, epochYear, isYear}
 
 mag-neg : (r : ℕ) {a : ℕ} → r ≤ suc a → mag (negℤ (pos r)) ≤ a
 mag-neg zero h = zero-le
@@ -35,12 +36,18 @@ fits-quot z d f = sfits-le (mag-quot z d) f
 
 pub fits-epoch : (z : ℤ) → SFits w32 z → SFits w32 (epochYear z)
 unfolding epochYear
-fits-epoch z f = sfits-le (mag-back z 5) f
+fits-epoch z f = sfits-le (mag-back z EPOCH-YEARS) f
 
 -- ---- a test against a literal reads the bits
 pub year-bits : (z : ℤ) (n : ℕ) → SFits w32 z → n < 2 ^ 31 → eqb (ofZ w32 z) n ≡ isYear n z
 year-bits (pos y) n f h = refl
 year-bits (negsuc y) n f h = ne-eqb (2 ^ 32 - suc y) n (λ e. omega (arith, f .sfits))
+
+pub year-is : (z : ℤ) {n : ℕ} → SFits w32 z → ofZ w32 z ≡ n → n < 2 ^ 31 → isYear n z ≡ true
+year-is z {n} f e h = sym (year-bits z n f h) ∙ eq-eqb (ofZ w32 z) n e
+
+pub year-not : (z : ℤ) {n : ℕ} → SFits w32 z → (ofZ w32 z ≡ n → ⊥) → n < 2 ^ 31 → isYear n z ≡ false
+year-not z {n} f e h = sym (year-bits z n f h) ∙ ne-eqb (ofZ w32 z) n e
 
 neg-bits : (r : ℕ) → SFits w32 (negℤ (pos r)) → eqb (ofZ w32 (negℤ (pos r))) 0 ≡ eqb r 0
 neg-bits zero f = refl

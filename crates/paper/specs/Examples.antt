@@ -18,10 +18,10 @@ use Rattle.tables.specs.Tables.{schmidtAt, schmidtBits, kAt, kBits}
 use Rattle.tables.specs.Rule.{misses}
 use Rattle.tables.specs.Laws.{mended}
 use Rattle.synthesis.specs.declared.Xyz.{Xyz}
-use Rattle.synthesis.specs.Arithmetic.{rounded}
-use Rattle.synthesis.specs.Recurrence.{lit, step, coefficient, angle, pole-angle, legendre, total, g-at, h-at, gc-hs, gs-hc, psn, dpsn, power, x-row, y-row, z-row, x-sum, y-sum, z-sum, quotient, pole-gc, pole-gs, pole-x-row, pole-z-row, pole-x, pole-y, pole-z}
-use Rattle.synthesis.specs.Sum.{inputs, small-sine, ratio-ok, offset-ok, numbersSay, entriesSay, listsSay, sumSays}
-use Rattle.synthesis.specs.Code.{lent}
+use Rattle.sums.specs.Arithmetic.{rounded}
+use Rattle.sums.specs.Recurrence.{angle, coefficient, dpsn, gc-hs, gs-hc, legendre, lit, pole-angle, pole-gc, pole-gs, pole-x, pole-x-row, pole-y, pole-z, pole-z-row, power, psn, quotient, step, total, x-row, x-sum, y-row, y-sum, z-row, z-sum}
+use Rattle.synthesis.specs.Sum.{entriesSay, inputs, lent, listsSay, numbersSay, offset-ok, ratio-ok, sumSays, valueOf}
+use Rattle.sums.specs.Paths.{placed, small-sine}
 use Rattle.field.specs.declared.strengths.GeomagneticField.{GeomagneticField}
 use Rattle.field.specs.Strengths.{usable, hOf, strengthSays, Warning, blackout, caution, no-zone, zoneOf, zoneSays, clamped, uncertaintySays}
 use Rattle.field.specs.Grid.{wrapped}
@@ -149,7 +149,7 @@ abbrev Met : Example → Type 0
 Met e = e .said ≡ e .asked-for
 
 first-said : sumSays (lent nought one nought one one nought dipole zeros zeros zeros) ≡ answered (record { x = ofBits binary32 0xc6ea6000; y = nought; z = nought })
-unfolding sumSays numbersSay listsSay entriesSay circle ratio-ok offset-ok capped small-sine inputs schmidtAt schmidtBits kAt kBits rounded lit angle pole-angle step legendre total g-at h-at gc-hs gs-hc psn dpsn power x-row y-row z-row x-sum y-sum z-sum quotient pole-gc pole-gs pole-x-row pole-z-row pole-x pole-y pole-z ofBits ofInt round sum add sub mul neg div lt le eq
+unfolding valueOf sumSays numbersSay listsSay entriesSay circle ratio-ok offset-ok capped small-sine inputs placed schmidtAt schmidtBits kAt kBits rounded lit angle pole-angle step legendre total gc-hs gs-hc psn dpsn power x-row y-row z-row x-sum y-sum z-sum quotient pole-gc pole-gs pole-x-row pole-z-row pole-x pole-y pole-z ofBits ofInt round sum add sub mul neg div lt le eq
 first-said = refl
 
 first-met : Met first
@@ -157,7 +157,7 @@ unfolding first ofBits toBits
 first-met = ap (row components) first-said
 
 second-said : sumSays (lent one nought nought one one nought dipole zeros zeros zeros) ≡ answered (record { x = nought; y = nought; z = ofBits binary32 0xc76a6000 })
-unfolding sumSays numbersSay listsSay entriesSay circle ratio-ok offset-ok capped small-sine inputs schmidtAt schmidtBits kAt kBits rounded lit angle pole-angle step legendre total g-at h-at gc-hs gs-hc psn dpsn power x-row y-row z-row x-sum y-sum z-sum quotient pole-gc pole-gs pole-x-row pole-z-row pole-x pole-y pole-z ofBits ofInt round sum add sub mul neg div lt le eq
+unfolding valueOf sumSays numbersSay listsSay entriesSay circle ratio-ok offset-ok capped small-sine inputs placed schmidtAt schmidtBits kAt kBits rounded lit angle pole-angle step legendre total gc-hs gs-hc psn dpsn power x-row y-row z-row x-sum y-sum z-sum quotient pole-gc pole-gs pole-x-row pole-z-row pole-x pole-y pole-z ofBits ofInt round sum add sub mul neg div lt le eq
 second-said = refl
 
 second-met : Met second
@@ -165,7 +165,7 @@ unfolding second ofBits toBits
 second-met = ap (row components) second-said
 
 third-said : sumSays (lent nought one nought one one nought zeros sectoral zeros zeros) ≡ answered (record { x = nought; y = ofBits binary32 0xc58ca000; z = nought })
-unfolding sumSays numbersSay listsSay entriesSay circle ratio-ok offset-ok capped small-sine inputs schmidtAt schmidtBits kAt kBits rounded lit angle pole-angle step legendre total g-at h-at gc-hs gs-hc psn dpsn power x-row y-row z-row x-sum y-sum z-sum quotient pole-gc pole-gs pole-x-row pole-z-row pole-x pole-y pole-z ofBits ofInt round sum add sub mul neg div lt le eq
+unfolding valueOf sumSays numbersSay listsSay entriesSay circle ratio-ok offset-ok capped small-sine inputs placed schmidtAt schmidtBits kAt kBits rounded lit angle pole-angle step legendre total gc-hs gs-hc psn dpsn power x-row y-row z-row x-sum y-sum z-sum quotient pole-gc pole-gs pole-x-row pole-z-row pole-x pole-y pole-z ofBits ofInt round sum add sub mul neg div lt le eq
 third-said = refl
 
 third-met : Met third

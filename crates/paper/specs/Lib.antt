@@ -1,4 +1,3 @@
--- P1 to P12, two answers of Field, and that every public contract leaves one result.
+-- P1 to P12, and two answers of Field.
 pub mod Examples
 pub mod Answered
-pub mod Unique

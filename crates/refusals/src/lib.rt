@@ -1,5 +1,7 @@
-// Every refusal of the library, once. The paper's number and values of each case are `paper` in
+// Every refusal of the library, once. The paper's number and values of each case are `line` in
 // specs/Paper.antt, by which the contracts speak.
+ghost use mathlib.Core.Path.{_≡_};
+ghost use Rattle.refusals.specs.Paper.{line};
 
 // A day: a year and the day of that year.
 pub struct Day {
@@ -32,6 +34,26 @@ pub enum Refusal {
     Offset,
     // 12
     Unusable,
+}
+
+// A refusal's number.
+pub fn number(k: Refusal) -> u32
+    ensures { λ r. ⌜ r ≡ line k .number ⌝ }
+{
+    match k {
+        Refusal::Height { .. } => 1,
+        Refusal::Latitude => 2,
+        Refusal::Longitude => 3,
+        Refusal::DayOfYear => 4,
+        Refusal::EpochYear { .. } => 5,
+        Refusal::Length => 6,
+        Refusal::Coefficient { .. } => 7,
+        Refusal::OtherEpoch { .. } => 8,
+        Refusal::Colatitude => 9,
+        Refusal::Ratio => 10,
+        Refusal::Offset => 11,
+        Refusal::Unusable => 12,
+    }
 }
 
 // What a group of checks finds.

@@ -1,44 +1,40 @@
-// One function for each kind of line: it reads the numbers of the question and writes the answer.
+// The answer to a question: its form is tested whole, then one function for each kind of line reads
+// its numbers and asks the library. Every float takes nine bytes, so each stands at a known place.
 use crate::fields;
+use crate::forms;
 use crate::published;
 use crate::read;
-use crate::read::Kind;
+use crate::replies;
+use crate::replies::END;
+use crate::replies::OK;
+use crate::replies::Reply;
 use crate::sets;
 use crate::sets::Set;
-use crate::write;
 use float32::RootAnswer;
 use models::EpochAnswer;
+use refusals::Day;
 use synthesis::Colatitude;
 use synthesis::Longitude;
 use synthesis::SumAnswer;
 
-fn root(line: &[u8], out: &mut [u8], at: usize) -> usize {
-    let x = read::float(line, 4);
-    if x.next != line.len() {
-        return write::malformed(out, at);
-    }
-    match float32::square_root(x.value) {
-        RootAnswer::Root(r) => {
-            let next = write::text(out, at, b"0");
-            write::float(out, next, r)
-        }
-        RootAnswer::Refused(why) => write::refusal(out, at, why),
+fn root(line: &[u8]) -> Reply {
+    match float32::square_root(read::float(line, 4)) {
+        RootAnswer::Root(r) => replies::few(OK, replies::float(r), END, END, END, END),
+        RootAnswer::Refused(why) => replies::refusal(why),
     }
 }
 
-fn epoch(line: &[u8], out: &mut [u8], at: usize) -> usize {
-    let year = read::int(line, 5);
-    let day = read::int(line, year.next);
-    if day.next != line.len() {
-        return write::malformed(out, at);
-    }
-    match models::epoch(year.value, day.value) {
-        EpochAnswer::Epoch(e) => {
-            let next = write::text(out, at, b"0");
-            let second = write::int(out, next, e.epoch_year);
-            write::float(out, second, e.offset)
-        }
-        EpochAnswer::Refused(why) => write::refusal(out, at, why),
+fn epoch(day: Day) -> Reply {
+    match models::epoch(day.year, day.day_of_year) {
+        EpochAnswer::Epoch(e) => replies::few(
+            OK,
+            replies::int(e.epoch_year),
+            replies::float(e.offset),
+            END,
+            END,
+            END,
+        ),
+        EpochAnswer::Refused(why) => replies::refusal(why),
     }
 }
 
@@ -57,48 +53,53 @@ pub fn sum_of(
     synthesis::sum(colatitude, longitude, ratio, offset, g, h, g_dot, h_dot)
 }
 
-fn sum(line: &[u8], out: &mut [u8], at: usize, entries: &[f32], set: Set) -> usize {
-    let cos_theta = read::float(line, 3);
-    let sin_theta = read::float(line, cos_theta.next);
-    let sin_lambda = read::float(line, sin_theta.next);
-    let cos_lambda = read::float(line, sin_lambda.next);
-    let ratio = read::float(line, cos_lambda.next);
-    let offset = read::float(line, ratio.next);
-    if offset.next != line.len() {
-        return write::malformed(out, at);
-    }
-    let colatitude = Colatitude {
-        cos: cos_theta.value,
-        sin: sin_theta.value,
-    };
-    let longitude = Longitude {
-        sin: sin_lambda.value,
-        cos: cos_lambda.value,
-    };
-    match sum_of(
-        colatitude,
-        longitude,
-        ratio.value,
-        offset.value,
-        entries,
-        set,
-    ) {
-        SumAnswer::Sum(v) => write::three(out, at, v.x, v.y, v.z),
-        SumAnswer::Refused(why) => write::refusal(out, at, why),
+fn components(a: SumAnswer) -> Reply {
+    match a {
+        SumAnswer::Sum(v) => replies::few(
+            OK,
+            replies::float(v.x),
+            replies::float(v.y),
+            replies::float(v.z),
+            END,
+            END,
+        ),
+        SumAnswer::Refused(why) => replies::refusal(why),
     }
 }
 
-// The answer to a question, by its first word.
-pub fn answer(line: &[u8], out: &mut [u8], at: usize, entries: &[f32], set: Set) -> usize {
-    match read::kind_of(line) {
-        Kind::Sum => sum(line, out, at, entries, set),
-        Kind::Epoch => epoch(line, out, at),
-        Kind::Root => root(line, out, at),
-        Kind::Field => fields::place(line, out, at, entries, set),
-        Kind::Strengths => fields::strengths(line, out, at),
-        Kind::Grid => fields::grid(line, out, at),
-        Kind::OnDay => published::on_day(line, out, at, entries, set),
-        Kind::AtOffset => published::at_offset(line, out, at, entries, set),
-        Kind::Other => write::malformed(out, at),
+fn sum(line: &[u8], entries: &[f32], set: Set) -> Reply {
+    let colatitude = Colatitude {
+        cos: read::float(line, 3),
+        sin: read::float(line, 12),
+    };
+    let longitude = Longitude {
+        sin: read::float(line, 21),
+        cos: read::float(line, 30),
+    };
+    let ratio = read::float(line, 39);
+    let offset = read::float(line, 48);
+    components(sum_of(colatitude, longitude, ratio, offset, entries, set))
+}
+
+// A question that can be read.
+fn reply(word: u64, line: &[u8], entries: &[f32], set: Set) -> Reply {
+    match word {
+        forms::SUM => sum(line, entries, set),
+        forms::EPOCH => epoch(read::day(line, 5)),
+        forms::SQRT => root(line),
+        forms::FIELD => fields::place(line, entries, set),
+        forms::STR => fields::strengths(line),
+        forms::GV => fields::grid(line),
+        forms::ROW => published::on_day(line, entries, set),
+        forms::MID => published::at_offset(line, entries, set),
+        _ => replies::MALFORMED,
     }
+}
+
+pub fn answer(line: &[u8], entries: &[f32], set: Set) -> Reply {
+    let word = read::word(line);
+    if forms::fits(line, word) {
+        return reply(word, line, entries, set);
+    }
+    replies::MALFORMED
 }

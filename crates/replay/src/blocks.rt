@@ -1,27 +1,27 @@
 // Standard input, block by block. A test of a place against the input's length is there for the
 // proof: the places come from reads into that input, and always lie within.
 use crate::lines;
+use crate::lines::LONGEST;
 use crate::lines::State;
 use crate::sets;
+use crate::sets::Set;
 use crate::write;
 use libc::STDIN_FILENO;
 ghost use Prim.Native.Nat.{_≤_};
 ghost use lib.ListN.{length};
 
-// What a block leaves to the next: the start of an unfinished line waits in the input buffer, and
-// of a line that is too long the rest is skipped.
+// What a block leaves to the next: the start of an unfinished line, which waits in the input
+// buffer, and the set in force.
 struct Run {
     is_over: bool,
-    is_skipping: bool,
     kept: usize,
-    state: State,
+    set: Set,
 }
 
 // What the whole lines of a block leave: the place after them.
 struct Left {
-    is_skipping: bool,
     from: usize,
-    state: State,
+    set: Set,
 }
 
 // The place of the first newline from `from` on, or the end of the block.
@@ -39,156 +39,103 @@ fn newline(block: &[u8], from: usize) -> usize
     i
 }
 
-// Reads after the bytes that are there. Gives how many are there then: no more, at the end.
+// At the end of the input: a last line that no newline ends gets one.
+fn ended(input: &mut [u8], kept: usize) -> usize {
+    if kept == 0 {
+        return 0;
+    }
+    if input.len() <= kept {
+        return 0;
+    }
+    input[kept] = b'\n';
+    kept + 1
+}
+
+// Reads after the bytes that are there. Gives how many are there then, and 0 when all is read.
 fn fill(input: &mut [u8], kept: usize) -> usize {
     if input.len() < kept {
-        return kept;
+        return 0;
     }
     let room = &mut input[kept..];
     let got = libc::read(STDIN_FILENO, room);
-    kept + io::count(got, room)
+    let n = io::count(got, room);
+    if n == 0 {
+        return ended(input, kept);
+    }
+    kept + n
 }
 
-// The bytes from `from` to `end` go to the front.
-fn shift(input: &mut [u8], from: usize, end: usize) {
+// The unfinished line goes to the front: the bytes from `from` to `end`. Of a line that is too long
+// no more than shows that it is. Gives how many.
+fn keep(input: &mut [u8], from: usize, end: usize) -> usize {
     let mut to = 0;
     let mut i = from;
     while i < end {
         if input.len() <= i {
-            return;
+            return to;
+        }
+        if LONGEST < to {
+            return to;
         }
         input[to] = input[i];
         to += 1;
         i += 1;
     }
+    to
 }
 
-fn one_line(line: &[u8], out: &mut [u8], entries: &mut [f32], skip: bool, state: State) -> State {
-    if skip {
-        return state;
-    }
-    lines::line(line, out, entries, state)
-}
-
-fn whole_lines(block: &[u8], out: &mut [u8], entries: &mut [f32], skip: bool, old: State) -> Left {
-    let mut is_skipping = skip;
+fn whole_lines(block: &[u8], out: &mut [u8], entries: &mut [f32], set: Set) -> Left {
+    let mut state = State { at: 0, set };
     let mut from = 0;
-    let mut state = old;
-    while from < block.len() {
-        let end = newline(block, from);
-        if block.len() <= end {
-            return Left {
-                is_skipping,
-                from,
-                state,
-            };
-        }
-        state = one_line(&block[from..end], out, entries, is_skipping, state);
-        is_skipping = false;
+    let mut end = newline(block, 0);
+    while end < block.len() {
+        state = lines::line(&block[from..end], out, entries, state);
         from = end + 1;
+        end = newline(block, from);
     }
-    Left {
-        is_skipping,
-        from,
-        state,
-    }
-}
-
-// The unfinished line at the end of a block of `n` bytes.
-fn keep(input: &mut [u8], n: usize, out: &mut [u8], left: Left) -> Run {
-    let from = left.from;
-    let state = left.state;
-    if left.is_skipping {
-        return going(true, 0, state);
-    }
-    if n <= from {
-        return going(false, 0, state);
-    }
-    if n - from <= lines::LONGEST {
-        shift(input, from, n);
-        return going(false, n - from, state);
-    }
-    if input.len() < n {
-        return going(false, 0, state);
-    }
-    let set = state.set;
-    let at = lines::too_long(&input[from..n], out, state.at);
-    going(true, 0, State { at, set })
-}
-
-fn going(is_skipping: bool, kept: usize, state: State) -> Run {
-    Run {
-        is_over: false,
-        is_skipping,
-        kept,
-        state,
-    }
-}
-
-// A last line that no newline ends.
-fn last(input: &[u8], kept: usize, out: &mut [u8], entries: &mut [f32], state: State) -> State {
-    if kept == 0 {
-        return state;
-    }
-    if input.len() < kept {
-        return state;
-    }
-    lines::line(&input[0..kept], out, entries, state)
-}
-
-// At the end of the input.
-fn finish(input: &[u8], out: &mut [u8], entries: &mut [f32], run: Run) -> Run {
-    let old = run.state;
-    let state = last(input, run.kept, out, entries, old);
-    write::flush(out, state.at);
-    Run {
-        is_over: true,
-        is_skipping: false,
-        kept: 0,
-        state,
-    }
-}
-
-fn flushed(out: &mut [u8], run: Run) -> Run {
-    let state = run.state;
     write::flush(out, state.at);
     let set = state.set;
-    going(run.is_skipping, run.kept, State { at: 0, set })
+    Left { from, set }
 }
 
-// A block of `n` bytes: its lines are answered, and what was written goes out.
-fn answered(input: &mut [u8], n: usize, out: &mut [u8], entries: &mut [f32], run: Run) -> Run {
-    if input.len() < n {
-        return run;
-    }
-    let old = run.state;
-    let left = whole_lines(&input[0..n], out, entries, run.is_skipping, old);
-    let next = keep(input, n, out, left);
-    flushed(out, next)
+fn least(a: usize, b: usize) -> usize
+    ensures { λ r. ⌜ r ≤ b ⌝ }
+{
+    if a < b { a } else { b }
 }
 
-fn turn(input: &mut [u8], out: &mut [u8], entries: &mut [f32], run: Run) -> Run {
+// The lines of the first `n` bytes. The output waits here, so that no caller has to carry it.
+fn answered(input: &[u8], n: usize, entries: &mut [f32], set: Set) -> Left {
+    let mut out = io::large_buffer();
+    let end = least(n, input.len());
+    whole_lines(&input[0..end], &mut out, entries, set)
+}
+
+// The lines of the next block are answered, and what is left of it waits.
+fn turn(input: &mut [u8], entries: &mut [f32], run: Run) -> Run {
     let n = fill(input, run.kept);
-    if n <= run.kept {
-        return finish(input, out, entries, run);
+    let old = run.set;
+    let left = answered(input, n, entries, old);
+    let kept = keep(input, left.from, n);
+    let set = left.set;
+    Run {
+        is_over: n == 0,
+        kept,
+        set,
     }
-    answered(input, n, out, entries, run)
 }
 
 // A proved loop has to end, and nothing says that the input does. So the turns are counted down,
 // from a number that no run uses up.
-pub fn all(input: &mut [u8], out: &mut [u8], entries: &mut [f32]) {
+pub fn all(input: &mut [u8], entries: &mut [f32]) {
     let mut turns = u64::MAX;
-    let mut run = going(
-        false,
-        0,
-        State {
-            at: 0,
-            set: sets::EMPTY,
-        },
-    );
+    let mut run = Run {
+        is_over: false,
+        kept: 0,
+        set: sets::EMPTY,
+    };
     while turns > 0 {
-        run = turn(input, out, entries, run);
+        run = turn(input, entries, run);
         if run.is_over {
             return;
         }

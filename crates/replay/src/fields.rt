@@ -1,19 +1,24 @@
 // The lines that ask the crate field.
 use crate::read;
+use crate::replies;
+use crate::replies::END;
+use crate::replies::OK;
+use crate::replies::Reply;
+use crate::replies::WRONG;
 use crate::sets;
 use crate::sets::Set;
-use crate::write;
 use field::FieldAnswer;
 use field::GeomagneticField;
 use field::GridAnswer;
 use field::Latitude;
 use field::StrengthAnswer;
 use field::ZoneAnswer;
-use models::ErrorModelAnswer;
+use models::WmmErrorModel;
 use refusals::Day;
 use synthesis::Longitude;
+ghost use Prim.Native.Nat.{_≤_};
 
-pub fn field_of(
+fn field_of(
     height: f32,
     latitude: Latitude,
     longitude: Longitude,
@@ -38,130 +43,137 @@ pub fn field_of(
     )
 }
 
-pub fn place(line: &[u8], out: &mut [u8], at: usize, entries: &[f32], set: Set) -> usize {
-    let height = read::float(line, 5);
-    let sin_phi = read::float(line, height.next);
-    let cos_phi = read::float(line, sin_phi.next);
-    let sin_lambda = read::float(line, cos_phi.next);
-    let cos_lambda = read::float(line, sin_lambda.next);
-    let year = read::int(line, cos_lambda.next);
-    let day_of_year = read::int(line, year.next);
-    if day_of_year.next != line.len() {
-        return write::malformed(out, at);
-    }
-    let latitude = Latitude {
-        sin: sin_phi.value,
-        cos: cos_phi.value,
-    };
-    let longitude = Longitude {
-        sin: sin_lambda.value,
-        cos: cos_lambda.value,
-    };
-    let day = Day {
-        year: year.value,
-        day_of_year: day_of_year.value,
-    };
-    match field_of(height.value, latitude, longitude, day, entries, set) {
-        FieldAnswer::Field(v) => write::three(out, at, v.x, v.y, v.z),
-        FieldAnswer::Refused(why) => write::refusal(out, at, why),
+pub fn latitude(line: &[u8], at: usize) -> Latitude
+    requires { ⌜ at ≤ 64 ⌝ }
+{
+    Latitude {
+        sin: read::float(line, at),
+        cos: read::float(line, at + 9),
     }
 }
 
-fn value(a: StrengthAnswer) -> f32 {
-    match a {
-        StrengthAnswer::Strength(v) => v,
-        StrengthAnswer::Refused(_) => 0.0,
+pub fn longitude(line: &[u8], at: usize) -> Longitude
+    requires { ⌜ at ≤ 64 ⌝ }
+{
+    Longitude {
+        sin: read::float(line, at),
+        cos: read::float(line, at + 9),
     }
 }
 
-fn number(zone: ZoneAnswer) -> u64 {
-    match zone {
-        ZoneAnswer::Blackout => 1,
-        ZoneAnswer::Caution => 2,
-        ZoneAnswer::NoZone => 0,
-        ZoneAnswer::Refused(_) => 0,
-    }
-}
-
-fn five(out: &mut [u8], at: usize, h: f32, f: f32, zone: u64, in_2020: f32, in_2025: f32) -> usize {
-    let first = write::text(out, at, b"0");
-    let second = write::float(out, first, h);
-    let third = write::float(out, second, f);
-    let fourth = write::count(out, third, zone);
-    let fifth = write::float(out, fourth, in_2020);
-    write::float(out, fifth, in_2025)
-}
-
-// The five strengths, or the first refusal among them.
-fn strengths_of(out: &mut [u8], at: usize, v: GeomagneticField) -> usize {
-    let h = v.h();
-    if let StrengthAnswer::Refused(why) = h {
-        return write::refusal(out, at, why);
-    }
-    let f = v.f();
-    if let StrengthAnswer::Refused(why) = f {
-        return write::refusal(out, at, why);
-    }
-    let zone = v.declination_warning();
-    if let ZoneAnswer::Refused(why) = zone {
-        return write::refusal(out, at, why);
-    }
-    let in_2020 = v.declination_uncertainty(2020);
-    if let StrengthAnswer::Refused(why) = in_2020 {
-        return write::refusal(out, at, why);
-    }
-    let in_2025 = v.declination_uncertainty(2025);
-    if let StrengthAnswer::Refused(why) = in_2025 {
-        return write::refusal(out, at, why);
-    }
-    five(
-        out,
-        at,
-        value(h),
-        value(f),
-        number(zone),
-        value(in_2020),
-        value(in_2025),
+// What Field says of the place and the day that stand from `at` on.
+pub fn asked(line: &[u8], at: usize, entries: &[f32], set: Set) -> FieldAnswer
+    requires { ⌜ at ≤ 5 ⌝ }
+{
+    field_of(
+        read::float(line, at),
+        latitude(line, at + 9),
+        longitude(line, at + 27),
+        read::day(line, at + 45),
+        entries,
+        set,
     )
 }
 
-// A field of three given numbers. Its own error figures do not matter: each uncertainty is asked
-// with a year, whose figures it takes.
-pub fn strengths(line: &[u8], out: &mut [u8], at: usize) -> usize {
-    let x = read::float(line, 3);
-    let y = read::float(line, x.next);
-    let z = read::float(line, y.next);
-    if z.next != line.len() {
-        return write::malformed(out, at);
-    }
-    match models::error_model_by_epoch_year(2020) {
-        ErrorModelAnswer::Model(error) => strengths_of(
-            out,
-            at,
-            GeomagneticField {
-                x: x.value,
-                y: y.value,
-                z: z.value,
-                error,
-            },
-        ),
-        ErrorModelAnswer::Refused(why) => write::refusal(out, at, why),
+// The components, then the eight error figures.
+fn record(v: GeomagneticField) -> Reply {
+    let e = v.error;
+    [
+        OK,
+        replies::float(v.x),
+        replies::float(v.y),
+        replies::float(v.z),
+        replies::float(e.declination_sigma_c),
+        replies::float(e.declination_sigma_v),
+        replies::float(e.inclination),
+        replies::float(e.f),
+        replies::float(e.h),
+        replies::float(e.x),
+        replies::float(e.y),
+        replies::float(e.z),
+    ]
+}
+
+pub fn place(line: &[u8], entries: &[f32], set: Set) -> Reply {
+    match asked(line, 5, entries, set) {
+        FieldAnswer::Field(v) => record(v),
+        FieldAnswer::Refused(why) => replies::refusal(why),
     }
 }
 
-pub fn grid(line: &[u8], out: &mut [u8], at: usize) -> usize {
+// A strength as a word. The strengths of a record are all refused or none, and H's refusal is told.
+fn value(a: StrengthAnswer) -> u64 {
+    match a {
+        StrengthAnswer::Strength(v) => replies::float(v),
+        StrengthAnswer::Refused(_) => WRONG,
+    }
+}
+
+fn zone(z: ZoneAnswer) -> u64 {
+    match z {
+        ZoneAnswer::NoZone => replies::count(0),
+        ZoneAnswer::Blackout => replies::count(1),
+        ZoneAnswer::Caution => replies::count(2),
+        ZoneAnswer::Refused(_) => WRONG,
+    }
+}
+
+fn five(v: GeomagneticField) -> Reply {
+    replies::few(
+        OK,
+        value(v.h()),
+        value(v.f()),
+        zone(v.declination_warning()),
+        value(v.declination_uncertainty(2020)),
+        value(v.declination_uncertainty(2025)),
+    )
+}
+
+fn strengths_of(v: GeomagneticField) -> Reply {
+    match v.h() {
+        StrengthAnswer::Strength(_) => five(v),
+        StrengthAnswer::Refused(why) => replies::refusal(why),
+    }
+}
+
+// The error figures of a record of three given numbers. They do not matter: each uncertainty is
+// asked with a year, whose figures it takes.
+const NO_FIGURES: WmmErrorModel = WmmErrorModel {
+    declination_sigma_c: 0.0,
+    declination_sigma_v: 0.0,
+    inclination: 0.0,
+    f: 0.0,
+    h: 0.0,
+    x: 0.0,
+    y: 0.0,
+    z: 0.0,
+};
+
+pub fn strengths(line: &[u8]) -> Reply {
+    strengths_of(GeomagneticField {
+        x: read::float(line, 3),
+        y: read::float(line, 12),
+        z: read::float(line, 21),
+        error: NO_FIGURES,
+    })
+}
+
+// The word P where there is one, N where there is none.
+const PRESENT: u64 = 0x5000_0000_0000_0000;
+
+const NONE: u64 = 0x4e00_0000_0000_0000;
+
+fn variation(a: GridAnswer) -> Reply {
+    match a {
+        GridAnswer::Variation(v) => replies::few(OK, PRESENT, replies::float(v), END, END, END),
+        GridAnswer::Absent => replies::few(OK, NONE, END, END, END, END),
+        GridAnswer::Refused(why) => replies::refusal(why),
+    }
+}
+
+pub fn grid(line: &[u8]) -> Reply {
     let latitude = read::float(line, 2);
-    let longitude = read::float(line, latitude.next);
-    let declination = read::float(line, longitude.next);
-    if declination.next != line.len() {
-        return write::malformed(out, at);
-    }
-    match field::grid_variation(latitude.value, longitude.value, declination.value) {
-        GridAnswer::Variation(v) => {
-            let next = write::text(out, at, b"0 P");
-            write::float(out, next, v)
-        }
-        GridAnswer::Absent => write::text(out, at, b"0 N"),
-        GridAnswer::Refused(why) => write::refusal(out, at, why),
-    }
+    let longitude = read::float(line, 11);
+    let declination = read::float(line, 20);
+    variation(field::grid_variation(latitude, longitude, declination))
 }

@@ -1,9 +1,11 @@
 // One line: it is written back up to its mark, with the answer after it.
 use crate::answers;
 use crate::read;
+use crate::read::NOWHERE;
+use crate::replies;
+use crate::replies::Reply;
 use crate::sets;
 use crate::sets::Set;
-use crate::sets::SetAnswer;
 use crate::write;
 ghost use Prim.Native.Nat.{_≤_};
 ghost use lib.ListN.{length};
@@ -20,80 +22,59 @@ pub struct State {
     pub set: Set,
 }
 
+fn is_mark(line: &[u8], at: usize) -> bool {
+    let sign = read::after(line, at, b' ');
+    let space = read::after(line, sign, b'=');
+    read::after(line, space, b' ') != NOWHERE
+}
+
 // The place of the first mark, or the end of the line.
 fn mark(line: &[u8]) -> usize
     ensures { λ r. ⌜ r ≤ length (now (line .entry)) ⌝ }
 {
-    let n = line.len();
-    if n < 3 {
-        return n;
-    }
     let mut i = 0;
-    while i < n - 2 {
-        if line[i] == b' ' {
-            if line[i + 1] == b'=' {
-                if line[i + 2] == b' ' {
-                    return i;
-                }
-            }
+    while i < line.len() {
+        if is_mark(line, i) {
+            return i;
         }
         i += 1;
     }
-    n
+    i
 }
 
-fn malformed(shown: &[u8], out: &mut [u8], at: usize) -> usize {
-    let next = write::text(out, at, shown);
-    write::text(out, next, b" = malformed\n")
-}
-
-pub fn too_long(line: &[u8], out: &mut [u8], at: usize) -> usize {
-    if line.len() <= SHOWN {
-        return malformed(line, out, at);
+// How much of a line is written back: up to its mark, and of one that is too long the start.
+fn shown(line: &[u8]) -> usize
+    ensures { λ r. ⌜ r ≤ length (now (line .entry)) ⌝ }
+{
+    if LONGEST < line.len() {
+        return SHOWN;
     }
-    malformed(&line[0..SHOWN], out, at)
+    mark(line)
 }
 
-fn question(line: &[u8], out: &mut [u8], at: usize, entries: &[f32], set: Set) -> usize {
-    let mark = write::text(out, at, line);
-    let start = write::text(out, mark, b" = ");
-    let end = answers::answer(line, out, start, entries, set);
+// What stands after the part that is shown.
+fn reply(line: &[u8], shown: &[u8], entries: &[f32], set: Set) -> Reply {
+    if LONGEST < line.len() {
+        return replies::MALFORMED;
+    }
+    if sets::is_one(line) {
+        return replies::NOTHING;
+    }
+    answers::answer(shown, entries, set)
+}
+
+fn put(line: &[u8], out: &mut [u8], at: usize, entries: &[f32], set: Set) -> usize {
+    let n = shown(line);
+    let part = &line[0..n];
+    let mark = write::text(out, at, part);
+    let end = write::reply(out, mark, reply(line, part, entries, set));
     write::byte(out, end, b'\n')
 }
 
-fn set_line(line: &[u8], out: &mut [u8], at: usize, entries: &mut [f32], old: Set) -> State {
-    match sets::take(line, entries) {
-        SetAnswer::Read(set) => {
-            let end = write::text(out, at, line);
-            State {
-                at: write::byte(out, end, b'\n'),
-                set,
-            }
-        }
-        SetAnswer::Malformed => State {
-            at: malformed(line, out, at),
-            set: old,
-        },
-    }
-}
-
 pub fn line(line: &[u8], out: &mut [u8], entries: &mut [f32], state: State) -> State {
-    let at = state.at;
-    let set = state.set;
-    if LONGEST < line.len() {
-        return State {
-            at: too_long(line, out, at),
-            set,
-        };
-    }
-    let end = mark(line);
-    if end == line.len() {
-        if read::starts(line, b"SET") {
-            return set_line(line, out, at, entries, set);
-        }
-    }
+    let set = sets::in_force(line, entries, state.set);
     State {
-        at: question(&line[0..end], out, at, entries, set),
+        at: put(line, out, state.at, entries, set),
         set,
     }
 }

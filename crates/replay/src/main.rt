@@ -2,15 +2,16 @@
 mod answers;
 mod blocks;
 mod fields;
+mod forms;
 mod lines;
 mod published;
 mod read;
+mod replies;
 mod sets;
 mod write;
 
 fn main() {
     let mut input = io::large_buffer();
-    let mut out = io::large_buffer();
     let mut entries = [0.0f32; 512];
-    blocks::all(&mut input, &mut out, &mut entries);
+    blocks::all(&mut input, &mut entries);
 }

@@ -3,13 +3,13 @@
 use crate::answers;
 use crate::fields;
 use crate::read;
+use crate::replies;
+use crate::replies::END;
+use crate::replies::Reply;
 use crate::sets::Set;
-use crate::write;
 use field::FieldAnswer;
 use field::Latitude;
 use geocentric::Geocentric;
-use refusals::Day;
-use refusals::Refusal;
 use synthesis::Colatitude;
 use synthesis::Longitude;
 use synthesis::SumAnswer;
@@ -17,93 +17,70 @@ use synthesis::Xyz;
 
 const ALLOWED_NT: f32 = 0.1;
 
-enum Components {
-    Are(Xyz),
-    Refused(Refusal),
-}
+// The words within and beyond, and after the latter X, Y or Z.
+const WITHIN: u64 = 0x7769_7468_696e_0000;
+
+const BEYOND: u64 = 0x6265_796f_6e64_0000;
+
+const X: u64 = 0x5800_0000_0000_0000;
+
+const Y: u64 = 0x5900_0000_0000_0000;
+
+const Z: u64 = 0x5a00_0000_0000_0000;
 
 fn far(ours: f32, listed: f32) -> bool {
     float32::outside(ours - listed, -ALLOWED_NT, ALLOWED_NT)
 }
 
-fn verdict(out: &mut [u8], at: usize, ours: Xyz, listed: Xyz) -> usize {
+// The place of what stands `n` bytes before the end of the line.
+fn back(line: &[u8], n: usize) -> usize {
+    if line.len() < n {
+        return 0;
+    }
+    line.len() - n
+}
+
+// The three floats that end the line.
+fn listed(line: &[u8]) -> Xyz {
+    Xyz {
+        x: read::float(line, back(line, 27)),
+        y: read::float(line, back(line, 18)),
+        z: read::float(line, back(line, 9)),
+    }
+}
+
+// The first component that lies too far off.
+fn first_far(ours: Xyz, listed: Xyz) -> u64 {
     if far(ours.x, listed.x) {
-        return write::text(out, at, b"beyond X");
+        return X;
     }
     if far(ours.y, listed.y) {
-        return write::text(out, at, b"beyond Y");
+        return Y;
     }
     if far(ours.z, listed.z) {
-        return write::text(out, at, b"beyond Z");
+        return Z;
     }
-    write::text(out, at, b"within")
+    END
 }
 
-fn compared(line: &[u8], from: usize, out: &mut [u8], at: usize, ours: Components) -> usize {
-    let x = read::float(line, from);
-    let y = read::float(line, x.next);
-    let z = read::float(line, y.next);
-    if z.next != line.len() {
-        return write::malformed(out, at);
+fn verdict(ours: Xyz, listed: Xyz) -> Reply {
+    let letter = first_far(ours, listed);
+    if letter == END {
+        return replies::few(WITHIN, END, END, END, END, END);
     }
-    let listed = Xyz {
-        x: x.value,
-        y: y.value,
-        z: z.value,
-    };
-    match ours {
-        Components::Are(v) => verdict(out, at, v, listed),
-        Components::Refused(why) => write::refusal(out, at, why),
-    }
+    replies::few(BEYOND, letter, END, END, END, END)
 }
 
-struct Place {
-    height: f32,
-    latitude: Latitude,
-    longitude: Longitude,
-    next: usize,
-}
-
-fn place_of(line: &[u8], at: usize) -> Place {
-    let height = read::float(line, at);
-    let sin_phi = read::float(line, height.next);
-    let cos_phi = read::float(line, sin_phi.next);
-    let sin_lambda = read::float(line, cos_phi.next);
-    let cos_lambda = read::float(line, sin_lambda.next);
-    Place {
-        height: height.value,
-        latitude: Latitude {
-            sin: sin_phi.value,
-            cos: cos_phi.value,
-        },
-        longitude: Longitude {
-            sin: sin_lambda.value,
-            cos: cos_lambda.value,
-        },
-        next: cos_lambda.next,
-    }
+fn three(x: f32, y: f32, z: f32) -> Xyz {
+    Xyz { x, y, z }
 }
 
 // A whole day: the entry Field.
-pub fn on_day(line: &[u8], out: &mut [u8], at: usize, entries: &[f32], set: Set) -> usize {
-    let p = place_of(line, 3);
-    let year = read::int(line, p.next);
-    let day_of_year = read::int(line, year.next);
-    let day = Day {
-        year: year.value,
-        day_of_year: day_of_year.value,
-    };
-    let latitude = p.latitude;
-    let longitude = p.longitude;
-    let ours = match fields::field_of(p.height, latitude, longitude, day, entries, set) {
-        FieldAnswer::Field(v) => Components::Are(Xyz {
-            x: v.x,
-            y: v.y,
-            z: v.z,
-        }),
-        FieldAnswer::Refused(why) => Components::Refused(why),
-    };
-    compared(line, day_of_year.next, out, at, ours)
+pub fn on_day(line: &[u8], entries: &[f32], set: Set) -> Reply {
+    match fields::asked(line, 3, entries, set) {
+        FieldAnswer::Field(v) => verdict(three(v.x, v.y, v.z), listed(line)),
+        FieldAnswer::Refused(why) => replies::refusal(why),
+    }
 }
 
 fn turned(v: Xyz, p: Geocentric, latitude: Latitude) -> Xyz {
@@ -116,21 +93,28 @@ fn turned(v: Xyz, p: Geocentric, latitude: Latitude) -> Xyz {
     }
 }
 
-// A date that is no whole day: the modules, with the offset that is given.
-pub fn at_offset(line: &[u8], out: &mut [u8], at: usize, entries: &[f32], set: Set) -> usize {
-    let p = place_of(line, 3);
-    let offset = read::float(line, p.next);
-    let latitude = p.latitude;
-    let longitude = p.longitude;
-    let c = geocentric::geodetic_to_geocentric(p.height, latitude.sin, latitude.cos);
+fn sum_at(
+    p: Geocentric,
+    longitude: Longitude,
+    offset: f32,
+    entries: &[f32],
+    set: Set,
+) -> SumAnswer {
     let colatitude = Colatitude {
-        cos: c.cos_theta,
-        sin: c.sin_theta,
+        cos: p.cos_theta,
+        sin: p.sin_theta,
     };
-    let ratio = geocentric::radius_ratio(c.r);
-    let ours = match answers::sum_of(colatitude, longitude, ratio, offset.value, entries, set) {
-        SumAnswer::Sum(v) => Components::Are(turned(v, c, latitude)),
-        SumAnswer::Refused(why) => Components::Refused(why),
-    };
-    compared(line, offset.next, out, at, ours)
+    let ratio = geocentric::radius_ratio(p.r);
+    answers::sum_of(colatitude, longitude, ratio, offset, entries, set)
+}
+
+// A date that is no whole day: the modules, with the offset that is given.
+pub fn at_offset(line: &[u8], entries: &[f32], set: Set) -> Reply {
+    let latitude = fields::latitude(line, 12);
+    let p = geocentric::geodetic_to_geocentric(read::float(line, 3), latitude.sin, latitude.cos);
+    let longitude = fields::longitude(line, 30);
+    match sum_at(p, longitude, read::float(line, 48), entries, set) {
+        SumAnswer::Sum(v) => verdict(turned(v, p, latitude), listed(line)),
+        SumAnswer::Refused(why) => replies::refusal(why),
+    }
 }

@@ -1,9 +1,9 @@
-// Reading the words of a question. Each number is read together with the one space before it.
-ghost use Prim.Native.Nat.{_≤_};
+// Reading the words of a line. Each number is read together with the one space before it.
+use refusals::Day;
 
 // The place after a read that failed. No line is so long, so every later read fails there too, and
 // a run of reads is tested once, at its end.
-const NOWHERE: usize = usize::MAX;
+pub const NOWHERE: usize = usize::MAX;
 
 // What was read, and the place after it.
 pub struct FloatAt {
@@ -21,8 +21,10 @@ pub struct CountAt {
     pub next: usize,
 }
 
+// `left` says how many digits more there could have been.
 struct DigitsAt {
     value: u64,
+    left: usize,
     next: usize,
 }
 
@@ -41,76 +43,37 @@ const NO_COUNT: CountAt = CountAt {
     next: NOWHERE,
 };
 
-pub fn starts(line: &[u8], word: &[u8]) -> bool {
+fn wide(b: u8) -> u64 {
+    b as u64
+}
+
+// The first word as one number, its bytes as digits. A longer word can come to the same number by
+// its last eight bytes; then no space stands where the first read wants one.
+pub fn word(line: &[u8]) -> u64 {
+    let mut value: u64 = 0;
     let mut i = 0;
-    while i < word.len() {
-        if line.len() <= i {
-            return false;
+    while i < line.len() {
+        if line[i] == b' ' {
+            return value;
         }
-        if line[i] != word[i] {
-            return false;
-        }
+        value = value % 0x100_0000_0000_0000 * 256 + wide(line[i]) % 256;
         i += 1;
     }
-    true
+    value
 }
 
-pub enum Kind {
-    Sum,
-    Field,
-    Epoch,
-    Strengths,
-    Grid,
-    Root,
-    OnDay,
-    AtOffset,
-    Other,
-}
-
-// The kind of a question. Where its word goes on, the first read finds no space.
-pub fn kind_of(line: &[u8]) -> Kind {
-    if starts(line, b"SUM") {
-        return Kind::Sum;
-    }
-    if starts(line, b"FIELD") {
-        return Kind::Field;
-    }
-    if starts(line, b"EPOCH") {
-        return Kind::Epoch;
-    }
-    if starts(line, b"STR") {
-        return Kind::Strengths;
-    }
-    if starts(line, b"GV") {
-        return Kind::Grid;
-    }
-    if starts(line, b"SQRT") {
-        return Kind::Root;
-    }
-    if starts(line, b"ROW") {
-        return Kind::OnDay;
-    }
-    if starts(line, b"MID") {
-        return Kind::AtOffset;
-    }
-    Kind::Other
-}
-
-fn after_space(line: &[u8], at: usize) -> usize {
+// The place after the byte `b`, if that stands at `at`.
+pub fn after(line: &[u8], at: usize, b: u8) -> usize {
     if at < line.len() {
-        if line[at] == b' ' {
+        if line[at] == b {
             return at + 1;
         }
     }
     NOWHERE
 }
 
-fn wide(b: u8) -> u32 {
-    b as u32
-}
-
-// The value of a hex digit, of either case. Any other byte gives 16 or more.
-fn hex_digit(b: u8) -> u32 {
+// The value of a hex digit, of either case. Any other byte gives 16.
+fn digit(b: u8) -> u64 {
     match b {
         b'0'..=b'9' => wide(b - b'0'),
         b'a'..=b'f' => wide(b - b'a' + 10),
@@ -119,67 +82,79 @@ fn hex_digit(b: u8) -> u32 {
     }
 }
 
-// Exactly 8 hex digits: the bits of a float. The % never cuts anything off: by it the checker sees
-// that the sum fits.
-pub fn float(line: &[u8], at: usize) -> FloatAt {
-    let start = after_space(line, at);
-    if line.len() < 8 {
-        return NO_FLOAT;
+// The % here and below never cuts anything off: by it the checker sees that the sum fits.
+fn times(value: u64, base: u64) -> u64 {
+    if base == 16 {
+        return value % 0x1000_0000_0000 * 16;
     }
-    if line.len() - 8 < start {
-        return NO_FLOAT;
-    }
-    let mut bits: u32 = 0;
-    let mut i = 0;
-    while i < 8 {
-        let d = hex_digit(line[start + i]);
-        if 15 < d {
-            return NO_FLOAT;
+    value % 0x1000_0000_0000 * 10
+}
+
+// Up to `most` digits, of base 16 or 10. A further digit is left standing, and no word ends before a
+// digit.
+fn digits(line: &[u8], start: usize, most: usize, base: u64) -> DigitsAt {
+    let mut value: u64 = 0;
+    let mut next = start;
+    let mut left = most;
+    while left > 0 {
+        if line.len() <= next {
+            return DigitsAt { value, left, next };
         }
-        bits = bits % 0x1000_0000 * 16 + d;
-        i += 1;
+        let d = digit(line[next]);
+        if base <= d {
+            return DigitsAt { value, left, next };
+        }
+        value = times(value, base) % 0x1000_0000_0000_0000 + d % 16;
+        next += 1;
+        left -= 1;
+    }
+    DigitsAt { value, left, next }
+}
+
+fn bits(n: u64) -> u32 {
+    (n % 0x1_0000_0000) as u32
+}
+
+// Exactly 8 hex digits: the bits of a float.
+fn float_at(line: &[u8], at: usize) -> FloatAt {
+    let d = digits(line, after(line, at, b' '), 8, 16);
+    if d.left > 0 {
+        return NO_FLOAT;
     }
     FloatAt {
-        value: float32::from_bits(bits),
-        next: start + 8,
+        value: float32::from_bits(bits(d.value)),
+        next: d.next,
     }
 }
 
-fn decimal_digit(b: u8) -> u32 {
-    match b {
-        b'0'..=b'9' => wide(b - b'0'),
-        _ => 10,
-    }
+pub fn float(line: &[u8], at: usize) -> f32 {
+    let f = float_at(line, at);
+    f.value
 }
 
-fn digits_to(value: u64, count: usize, next: usize) -> DigitsAt {
-    if count == 0 {
-        return DigitsAt {
-            value: 0,
-            next: NOWHERE,
-        };
-    }
-    DigitsAt { value, next }
-}
-
-// 1 to `most` decimal digits. A further digit is left standing, and no word ends before a digit.
-fn digits(line: &[u8], start: usize, most: usize) -> DigitsAt {
-    let mut value: u64 = 0;
-    let mut count = 0;
-    let mut i = start;
-    while count < most {
-        if line.len() <= i {
-            return digits_to(value, count, i);
-        }
-        let d = decimal_digit(line[i]);
-        if 9 < d {
-            return digits_to(value, count, i);
-        }
-        value = value % 1_000_000_000_000 * 10 + d as u64;
-        count += 1;
+// The place after `n` floats.
+pub fn floats_end(line: &[u8], at: usize, n: usize) -> usize {
+    let mut next = at;
+    let mut i = 0;
+    while i < n {
+        let f = float_at(line, next);
+        next = f.next;
         i += 1;
     }
-    digits_to(value, count, i)
+    next
+}
+
+// Floats into a list. Gives the place after them.
+fn floats(line: &[u8], at: usize, list: &mut [f32]) -> usize {
+    let mut next = at;
+    let mut i = 0;
+    while i < list.len() {
+        let f = float_at(line, next);
+        list[i] = f.value;
+        next = f.next;
+        i += 1;
+    }
+    next
 }
 
 fn plus(d: DigitsAt) -> IntAt {
@@ -205,18 +180,46 @@ fn minus(d: DigitsAt) -> IntAt {
     }
 }
 
-pub fn int(line: &[u8], at: usize) -> IntAt {
-    let start = after_space(line, at);
-    if start < line.len() {
-        if line[start] == b'-' {
-            return minus(digits(line, start + 1, 10));
-        }
+// 1 to `most` decimal digits. No digit at all comes to a number that is too large for all.
+fn decimal(line: &[u8], start: usize, most: usize) -> DigitsAt {
+    let d = digits(line, start, most, 10);
+    if d.left == most {
+        return DigitsAt {
+            value: u64::MAX,
+            left: most,
+            next: NOWHERE,
+        };
     }
-    plus(digits(line, start, 10))
+    d
 }
 
-pub fn count(line: &[u8], at: usize) -> CountAt {
-    let d = digits(line, after_space(line, at), 3);
+pub fn int(line: &[u8], at: usize) -> IntAt {
+    let start = after(line, at, b' ');
+    let signed = after(line, start, b'-');
+    if signed == NOWHERE {
+        return plus(decimal(line, start, 10));
+    }
+    minus(decimal(line, signed, 10))
+}
+
+pub fn day(line: &[u8], at: usize) -> Day {
+    let year = int(line, at);
+    let day_of_year = int(line, year.next);
+    Day {
+        year: year.value,
+        day_of_year: day_of_year.value,
+    }
+}
+
+// The place after a year and a day.
+pub fn day_end(line: &[u8], at: usize) -> usize {
+    let year = int(line, at);
+    let day_of_year = int(line, year.next);
+    day_of_year.next
+}
+
+fn count(line: &[u8], at: usize) -> CountAt {
+    let d = decimal(line, after(line, at, b' '), 3);
     let value = d.value;
     if 128 < value {
         return NO_COUNT;
@@ -227,36 +230,22 @@ pub fn count(line: &[u8], at: usize) -> CountAt {
     }
 }
 
-// `n` floats into `lists` from `start` on. Gives the place after them.
-fn floats(line: &[u8], at: usize, n: usize, lists: &mut [f32], start: usize) -> usize
-    requires { ⌜ start ≤ 384 ⌝ }
-    requires { ⌜ n ≤ 128 ⌝ }
-{
-    let mut next = at;
-    let mut i = 0;
-    while i < n {
-        if lists.len() <= start + i {
-            return NOWHERE;
-        }
-        let f = float(line, next);
-        lists[start + i] = f.value;
-        next = f.next;
-        i += 1;
-    }
-    next
+// The place after a count and so many floats.
+pub fn list_end(line: &[u8], at: usize) -> usize {
+    let n = count(line, at);
+    floats_end(line, n.next, n.value)
 }
 
-// A count and so many floats.
-pub fn list(line: &[u8], at: usize, lists: &mut [f32], start: usize) -> CountAt
-    requires { ⌜ start ≤ 384 ⌝ }
-{
+// A count and so many floats, into `lists` from `start` on.
+pub fn list(line: &[u8], at: usize, lists: &mut [f32], start: usize) -> CountAt {
     let n = count(line, at);
     let size = n.value;
-    if 128 < size {
+    if lists.len() < start {
         return NO_COUNT;
     }
-    CountAt {
-        value: size,
-        next: floats(line, n.next, size, lists, start),
+    if lists.len() - start < size {
+        return NO_COUNT;
     }
+    let next = floats(line, n.next, &mut lists[start..start + size]);
+    CountAt { value: size, next }
 }

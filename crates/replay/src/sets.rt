@@ -19,11 +19,6 @@ pub struct Set {
     pub h_dot: usize,
 }
 
-pub enum SetAnswer {
-    Read(Set),
-    Malformed,
-}
-
 pub const EMPTY: Set = Set {
     epoch: 0,
     g: 0,
@@ -31,6 +26,9 @@ pub const EMPTY: Set = Set {
     g_dot: 0,
     h_dot: 0,
 };
+
+// The first word of a SET line, as `read::word` gives it.
+const FIRST: u64 = 0x53_45_54;
 
 // A list of the set. No count is so large that the last line is reached.
 pub fn list(entries: &[f32], start: usize, count: usize) -> &[f32] {
@@ -42,42 +40,38 @@ pub fn list(entries: &[f32], start: usize, count: usize) -> &[f32] {
     entries
 }
 
-fn copy(from: &[f32], to: &mut [f32]) {
-    let mut i = 0;
-    while i < from.len() {
-        if to.len() <= i {
-            return;
-        }
-        to[i] = from[i];
-        i += 1;
+// A SET line that can be read. It holds no mark, and is not too long.
+pub fn is_one(line: &[u8]) -> bool {
+    if read::word(line) != FIRST {
+        return false;
     }
+    let epoch = read::int(line, 3);
+    let g = read::list_end(line, epoch.next);
+    let h = read::list_end(line, g);
+    let g_dot = read::list_end(line, h);
+    read::list_end(line, g_dot) == line.len()
 }
 
-// The words of a SET line, into `fresh`.
-fn read_into(line: &[u8], fresh: &mut [f32]) -> SetAnswer {
+// Its words, once it is known that it can be read whole.
+fn take(line: &[u8], entries: &mut [f32]) -> Set {
     let epoch = read::int(line, 3);
-    let g = read::list(line, epoch.next, fresh, G);
-    let h = read::list(line, g.next, fresh, H);
-    let g_dot = read::list(line, h.next, fresh, G_DOT);
-    let h_dot = read::list(line, g_dot.next, fresh, H_DOT);
-    if h_dot.next != line.len() {
-        return SetAnswer::Malformed;
-    }
-    SetAnswer::Read(Set {
+    let g = read::list(line, epoch.next, entries, G);
+    let h = read::list(line, g.next, entries, H);
+    let g_dot = read::list(line, h.next, entries, G_DOT);
+    let h_dot = read::list(line, g_dot.next, entries, H_DOT);
+    Set {
         epoch: epoch.value,
         g: g.value,
         h: h.value,
         g_dot: g_dot.value,
         h_dot: h_dot.value,
-    })
+    }
 }
 
-// A SET line. The old entries stay until the whole line is read.
-pub fn take(line: &[u8], entries: &mut [f32]) -> SetAnswer {
-    let mut fresh = [0.0f32; 512];
-    let answer = read_into(line, &mut fresh);
-    if let SetAnswer::Read(_) = answer {
-        copy(&fresh, entries);
+// The set in force from this line on.
+pub fn in_force(line: &[u8], entries: &mut [f32], old: Set) -> Set {
+    if is_one(line) {
+        return take(line, entries);
     }
-    answer
+    old
 }

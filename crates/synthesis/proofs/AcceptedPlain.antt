@@ -1,25 +1,27 @@
 -- What the law of the lanes asks holds of every accepted input.
 use mathlib.Core.Path.{_≡_, refl, ap, _∙_}
 use Prim.Native.Nat.{ℕ, zero, suc, _-_, _<_, _≤_}
-use native.Mathlib.Nat.{eq-or-lt-of-le, le-of-suc-le-suc}
+use native.Mathlib.Nat.{eq-or-lt-of-le, le-of-suc-le-suc, le-trans}
 use native.Mathlib.Omega.{arith}
 use mathlib.Core.Bool.{Bool, true, false, _&&_}
 use mathlib.Core.Logic.{inl, inr}
-use lib.Dec.{T, eqb, eqb→eq}
+use lib.Dec.{T, eqb, eqb→eq, lit≤}
 use lib.ListN.{getD}
 use lib.Ieee.{binary32, fits, ofBits}
 use lib.Ieee.Bits.{ofBits-fits}
 use lib.Ieee.Fits.{and-l, and-r}
-use Rattle.exact.specs.Circle.{circled}
-use Rattle.exact.specs.Ranks.{fine, fine-ok}
-use Rattle.exact.specs.Reach.{near-size}
+use Rattle.exact.proofs.Circle.{circled}
+use Rattle.exact.proofs.Ranks.{fine, fine-ok}
+use Rattle.exact.proofs.Reach.{near-size}
 use Rattle.tables.specs.Degree.{N-MAX, place}
 use Rattle.tables.specs.Tables.{kAt, kBits}
-use Rattle.synthesis.specs.Demand.{Accepted, ok}
-use Rattle.synthesis.specs.Same.{null}
-use Rattle.synthesis.specs.Keeps.{rounded-keeps}
-use Rattle.synthesis.specs.Sum.{Lent, inputs}
-use Rattle.synthesis.specs.Terms.{legA, legS, leg-near}
+use Rattle.sums.specs.Paths.{placed}
+use Rattle.synthesis.specs.Sum.{Lent, SumAccepted, inputs}
+use Rattle.synthesis.proofs.Demand.{ok}
+use Rattle.sums.specs.Arithmetic.{rounded, unrounded}
+use Rattle.sums.specs.Same.{null}
+use Rattle.sums.proofs.Keeps.{rounded-keeps}
+use Rattle.sums.proofs.Terms.{leg-near, legA, legS}
 use Rattle.synthesis.proofs.LaneLaws.{Plain}
 
 -- ---- K(n, n - 1) is +0, by a computed test
@@ -47,10 +49,10 @@ zero-is : ofBits binary32 0 ≡ null false
 unfolding ofBits
 zero-is = refl
 
-pub plain : (a : Lent) → Accepted a → T (fits binary32 (a .cos-theta)) → T (fits binary32 (a .sin-theta)) → Plain (inputs a)
-unfolding inputs kAt legS
+pub plain : (a : Lent) → SumAccepted a → T (fits binary32 (a .cos-theta)) → T (fits binary32 (a .sin-theta)) → Plain (inputs rounded a)
+unfolding inputs placed kAt legS rounded
 plain a w c s =
-    let o = ok a w in
+    let o = ok a w rounded-keeps in
     record {
       cos-held = c;
       sin-held = s;
@@ -58,5 +60,5 @@ plain a w c s =
       K-held = λ n m. ofBits-fits binary32 _;
       K-finite = λ n m. near-size (o .K n m) (fine tt tt tt) .0;
       K-last = λ n z l. (false, ap (ofBits binary32) (last-at N-MAX n z l last-zeros) ∙ zero-is);
-      P-finite = λ n m l. (let p = leg-near rounded-keeps (inputs a) o n m l in (near-size (p .0) (fine-ok legA tt) .0, near-size (p .1) (fine-ok legA tt) .0));
+      P-finite = λ n m l. (let p = leg-near rounded-keeps (inputs rounded a) (inputs unrounded a) o n m (le-trans l (lit≤ tt)) in (near-size (p .0) (fine-ok legA tt) .0, near-size (p .1) (fine-ok legA tt) .0));
     }

@@ -7,7 +7,8 @@ use borrow.Author.Tests.{eq-eqb}
 use lib.Dec.{T}
 use lib.Ieee.{Float}
 use lib.Ieee.Fits.{and-l, and-r}
-use Rattle.refusals.specs.Paper.{Paper, answered, paper, unless, paper-one, no-answer}
+use Rattle.refusals.specs.Paper.{Paper, answered, paper, unless}
+use Rattle.refusals.proofs.Laws.{paper-one, no-answer}
 use Rattle.refusals.specs.declared.Refusal.{Refusal}
 use Rattle.refusals.specs.declared.Refusal.the-variants.{Length, Coefficient}
 use Rattle.synthesis.specs.declared.Xyz.{Xyz}

@@ -12,7 +12,8 @@ use lib.Seq.{drop-cons}
 use lib.Ieee.{Float, nan, fin, binary32, neg, ofBits, lt, div}
 use lib.Ieee.Fits.{and-l, and-r}
 use Rattle.float32.proofs.Checks.{within-capped}
-use Rattle.refusals.specs.Paper.{Paper, answered, paper, unless, passed, paper-one, no-answer, answered-one, told, told-refused, told-accepted}
+use Rattle.refusals.specs.Paper.{Paper, answered, paper, unless, told}
+use Rattle.refusals.proofs.Laws.{passed, paper-one, no-answer, answered-one, told-refused, told-accepted}
 use Rattle.refusals.specs.declared.Refusal.{Refusal}
 use Rattle.refusals.specs.declared.Refusal.the-variants.{Length, Coefficient, Colatitude, Longitude, Ratio, Offset}
 use Rattle.tables.specs.Degree.{N-MAX, N-COEFF}
@@ -21,12 +22,13 @@ use Rattle.refusals.specs.declared.Verdict.{Verdict}
 use Rattle.refusals.specs.declared.Verdict.the-variants as Verdict
 use Rattle.synthesis.specs.declared.SumAnswer.{SumAnswer}
 use Rattle.synthesis.specs.declared.SumAnswer.the-variants as Answer
-use Rattle.synthesis.specs.Sum.{said, Close, Lent, entriesSay, listsSay, long, main-cap, numbersSay, offset-ok, rate-cap, ratio-ok, sumSays, valueOf, at, inputs, small-sine}
-use Rattle.synthesis.specs.Demand.{Accepted, close, ok}
+use Rattle.synthesis.specs.Sum.{Lent, SumAccepted, SumClose, entriesSay, inputs, listsSay, long, main-cap, numbersSay, offset-ok, rate-cap, ratio-ok, said, sumSays, valueOf}
+use Rattle.sums.specs.Paths.{at, placed, small-sine}
+use Rattle.synthesis.proofs.Demand.{close, ok}
+use Rattle.synthesis.specs.Code.{general, nearPole, withinOf}
+use Rattle.sums.specs.Arithmetic.{rounded}
 use Rattle.exact.specs.Tests.{all-between, all-capped, between, capped, circle, abs}
-use Rattle.exact.specs.Near.{hi, lo}
-use Rattle.synthesis.specs.Code.{withinOf, general, nearPole}
-use Rattle.synthesis.specs.Arithmetic.{rounded}
+use Rattle.exact.proofs.Near.{hi, lo}
 
 pub holds : {b : Bool} → b ≡ true → T b
 holds e = subst T (sym e) tt
@@ -117,12 +119,12 @@ lists-pass g h gd hd e w p =
 
 -- ---- the two paths
 module _ (a : Lent) (u : Float) (eu : u ≡ abs (a .sin-theta)) where
-  pub value-pole : lt u (ofBits binary32 0x3a83126f) ≡ true → (v : Xyz) → v ≡ nearPole (inputs a) N-MAX → v ≡ valueOf a
-  unfolding small-sine
+  pub value-pole : lt u (ofBits binary32 0x3a83126f) ≡ true → (v : Xyz) → v ≡ nearPole (inputs rounded a) N-MAX → v ≡ valueOf a
+  unfolding valueOf small-sine inputs placed
   value-pole n v e = let s : lt (abs (a .sin-theta)) (ofBits binary32 0x3a83126f) ≡ true = rw eu at n in rw (s, e)
 
-  pub value-general : lt u (ofBits binary32 0x3a83126f) ≡ false → (r : Xyz) → r ≡ general (inputs a) N-MAX → record { x = r .x; y = div binary32 (r .y) (a .sin-theta); z = r .z } ≡ valueOf a
-  unfolding small-sine rounded
+  pub value-general : lt u (ofBits binary32 0x3a83126f) ≡ false → (r : Xyz) → r ≡ general (inputs rounded a) N-MAX → record { x = r .x; y = div binary32 (r .y) (a .sin-theta); z = r .z } ≡ valueOf a
+  unfolding valueOf small-sine inputs placed rounded
   value-general n r e = let s : lt (abs (a .sin-theta)) (ofBits binary32 0x3a83126f) ≡ false = rw eu at n in rw (s, e)
 
 -- ---- what an answer says of what is lent
@@ -177,7 +179,7 @@ listed g h gd hd p v e =
     )
 
 -- an answer of Sum: what is lent passed every check, and the value is the definition's
-pub answer-accepted : (a : Lent) (v : Xyz) → sumSays a ≡ answered v → Accepted a × (valueOf a ≡ v)
+pub answer-accepted : (a : Lent) (v : Xyz) → sumSays a ≡ answered v → SumAccepted a × (valueOf a ≡ v)
 unfolding sumSays numbersSay
 answer-accepted a v e =
     let p1 = passed (circle (a .sin-theta) (a .cos-theta)) Colatitude _ v e in
@@ -200,10 +202,10 @@ answer-accepted a v e =
     )
 
 -- demand 3: an answer lies close to the exact sums
-pub answer-close : (a : Lent) (r : SumAnswer) → said r ≡ sumSays a → (v : Xyz) → r ≡ Answer.Sum v → Close a v
+pub answer-close : (a : Lent) (r : SumAnswer) → said r ≡ sumSays a → (v : Xyz) → r ≡ Answer.Sum v → SumClose a v
 answer-close a r e v h =
     let u = answer-accepted a v (sym e ∙ ap said h) in
-    subst (λ (x : Xyz). Close a x) (u .1) (close a (u .0))
+    subst (λ (x : Xyz). SumClose a x) (u .1) (close a (u .0))
 
 -- any two answers that the contract allows are equal
 pub sum-answer-one : (a : Lent) (r s : SumAnswer) → said r ≡ sumSays a → said s ≡ sumSays a → r ≡ s

@@ -8,9 +8,9 @@ use native.Mathlib.Omega.{arith}
 use lib.ListN.{length, getD, set, drop}
 use lib.Ieee.{Float, nan, binary32, add, sub, mul}
 use Rattle.tables.specs.Degree.{N-COEFF}
-use Rattle.synthesis.specs.Recurrence.{angle, coefficient}
+use Rattle.sums.specs.Recurrence.{angle, coefficient}
 use Rattle.synthesis.specs.Code.{atDate, cosAt, first, sinAt, startAt}
-use Rattle.synthesis.specs.Arithmetic.{rounded}
+use Rattle.sums.specs.Arithmetic.{rounded}
 
 pub first-more : (f : ℕ → Float) (m : ℕ) (d : List Float) → m < length d → set (first f m ++ drop m d) m (f m) ≡ first f (suc m) ++ drop (suc m) d
 unfolding first

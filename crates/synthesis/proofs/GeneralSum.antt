@@ -18,14 +18,16 @@ use Rattle.synthesis.specs.declared.rows.Places.{Places}
 use Rattle.synthesis.specs.declared.Xyz.{Xyz}
 use Rattle.synthesis.specs.declared.angles.Angles.{Angles}
 use Rattle.synthesis.specs.declared.lanes.Starts.{Starts}
-use Rattle.synthesis.specs.Recurrence.{Input, coefficient, g-at, h-at, legendre, lit, power, total, x-sum, y-sum, z-sum}
-use Rattle.synthesis.specs.Sum.{Lent, at, inputs, nought}
-use Rattle.synthesis.proofs.LaneLaws.{lane-idle, lane-next}
-use Rattle.synthesis.proofs.RowsHold.{apart-rotate, less-or, put-other, put-row, put-same, put-sized, rows-put, rows-step, same-or, term-other, term-same, term-sized}
-use Rattle.synthesis.specs.Code.{Apart, Given, Lanes, Row, Rows, Sized, W-LEN, Weighed, addDegree, anglesOf, atDate, cellXyz, cells, cosAt, first, general, lane, laneStep, laneSums, laneTerms, loweredAt, pdp, put, put4, put4Terms, putTerm, rotated, rowSums, sinAt, start, startAt, startsOf, stepped, termAt, termOf, totals}
+use Rattle.sums.specs.Recurrence.{Input, coefficient, lit, power, total, x-sum, y-sum, z-sum}
+use Rattle.synthesis.specs.Sum.{Lent, inputs}
+use Rattle.sums.specs.Paths.{at, nought, placed}
+use Rattle.synthesis.specs.Code.{Apart, Given, Lanes, Row, Sized, W-LEN, Weighed, addDegree, anglesOf, atDate, cellXyz, cells, cosAt, first, general, lane, laneStep, laneSums, laneTerms, laneTotal, loweredAt, pdp, put, put4, put4Terms, putTerm, rotated, rowSums, sinAt, start, startAt, startsOf, termAt, termOf, totals}
+use Rattle.sums.specs.Arithmetic.{Pair, pair, rounded}
+use Rattle.synthesis.proofs.LaneLaws.{Plain, lane-idle, lane-next, lane-sums}
+use Rattle.sums.proofs.Step.{less-or, same-or}
+use Rattle.synthesis.proofs.RowsHold.{apart-rotate, put-other, put-row, put-same, put-sized, term-other, term-same, term-sized}
 use Rattle.synthesis.proofs.Filled.{date-get, first-get}
 use Rattle.synthesis.proofs.PlaceSizes.{least, most}
-use Rattle.synthesis.specs.Arithmetic.{Pair, pair, rounded}
 use Rattle.tables.specs.Laws.{k-entry, schmidt-entry}
 
 -- ---- 0 and 1 as the code writes them
@@ -47,12 +49,12 @@ pub at-read : (l : List Float) (n m j : ℕ) → length l ≡ N-COEFF → 0 < n 
 at-read l n m j e z hn hm ej = rw ej (get-any l (place n m - 1) nan nought (omega (arith, most n hn, least n z)))
 
 module _ (a : Lent) (n m j : ℕ) (z : 0 < n) (hn : n < M-LEN) (hm : m ≤ n) (ej : j ≡ place n m - 1) where
-  pub g-read : length (a .g) ≡ N-COEFF → length (a .g-dot) ≡ N-COEFF → coefficient rounded (getD (a .g) j nan) (getD (a .g-dot) j nan) (a .offset) ≡ g-at rounded (inputs a) n m
-  unfolding inputs g-at rounded
+  pub g-read : length (a .g) ≡ N-COEFF → length (a .g-dot) ≡ N-COEFF → coefficient rounded (getD (a .g) j nan) (getD (a .g-dot) j nan) (a .offset) ≡ inputs rounded a .g n m
+  unfolding inputs placed rounded
   g-read e e' = rw (at-read (a .g) n m j e z hn hm ej, at-read (a .g-dot) n m j e' z hn hm ej)
 
-  pub h-read : length (a .h) ≡ N-COEFF → length (a .h-dot) ≡ N-COEFF → coefficient rounded (getD (a .h) j nan) (getD (a .h-dot) j nan) (a .offset) ≡ h-at rounded (inputs a) n m
-  unfolding inputs h-at rounded
+  pub h-read : length (a .h) ≡ N-COEFF → length (a .h-dot) ≡ N-COEFF → coefficient rounded (getD (a .h) j nan) (getD (a .h-dot) j nan) (a .offset) ≡ inputs rounded a .h n m
+  unfolding inputs placed rounded
   h-read e e' = rw (at-read (a .h) n m j e z hn hm ej, at-read (a .h-dot) n m j e' z hn hm ej)
 
 -- ---- the tables by place
@@ -70,34 +72,24 @@ pub record Long (a : Lent) : Type 0 where
   pub h-dot : length (a .h-dot) ≡ N-COEFF
 
 -- what is read at each order, from what is lent
-pub given : (a : Lent) (ks ss gt ht os : List Float) (t : Angles)
+pub given : (a : Lent) (ks ss gt ht : List Float) (t : Angles)
     → Long a → ks ≡ kTable → ss ≡ schmidtTable → gt ≡ atDate (a .g) (a .g-dot) (a .offset) → ht ≡ atDate (a .h) (a .h-dot) (a .offset)
-    → os ≡ first lit M-LEN → t ≡ anglesOf (a .sin-lambda) (a .cos-lambda)
-    → Given (inputs a) ks ss gt ht os (t .sin) (t .cos)
-unfolding inputs anglesOf
-given a ks ss gt ht os t L ek es eg eh eo et =
+    → t ≡ anglesOf (a .sin-lambda) (a .cos-lambda)
+    → Given (inputs rounded a) ks ss gt ht (first lit M-LEN) (t .sin) (t .cos)
+unfolding inputs placed anglesOf
+given a ks ss gt ht t L ek es eg eh et =
     record {
       K = λ n m h. rw ek (k-entry (place n m) h);
       S = λ n m hn hm. rw es (schmidt-entry (place n m) (omega (arith, most n hn)));
       g = λ n m z hn hm. date-get (a .g) (a .g-dot) (a .offset) gt (place n m - 1) eg (omega (arith, most n hn, least n z)) ∙ g-read a n m (place n m - 1) z hn hm refl (L .g) (L .g-dot);
       h = λ n m z hn hm. date-get (a .h) (a .h-dot) (a .offset) ht (place n m - 1) eh (omega (arith, most n hn, least n z)) ∙ h-read a n m (place n m - 1) z hn hm refl (L .h) (L .h-dot);
-      order = λ m h. rw eo (first-get lit M-LEN m h);
+      order = λ m h. first-get lit M-LEN m h;
       sin-is = λ m h. rw et (first-get (sinAt (a .sin-lambda) (a .cos-lambda)) M-LEN m h);
       cos-is = λ m h. rw et (first-get (cosAt (a .sin-lambda) (a .cos-lambda)) M-LEN m h);
     }
 
--- ---- one order
-module _ (i : Input) (M n m j : ℕ) (p d : List (List Float)) (q : Places) (z : 0 < n) (hm : m ≤ n) (hM : m < M) (r : PDp) (c s k : Float) (ec : c ≡ i .cos-theta) (es : s ≡ i .sin-theta) (ek : k ≡ i .K n m)
-    (er : r ≡ stepped c s k n m p d q) (w : Rows i M n j p d q) where
-  pub row-is : r ≡ pdp (legendre rounded i n m)
-  row-is = er ∙ rw (ec, es, ek) (ap pdp (rows-step i M n m p d q z hm hM j w))
-
-pub row-put : (i : Input) (M n m : ℕ) (p d : List (List Float)) (q : Places) → 0 < n → m ≤ n → m < M → m < M-LEN → (r : PDp) → r ≡ pdp (legendre rounded i n m) → Rows i M n m p d q
-    → Rows i M n (m + 1) (put p (q .cur) m (r .p)) (put d (q .cur) m (r .dp)) q
-row-put i M n m p d q z hm hM l r er w = rows-put i M n m p d q z hm hM w l (r .p) (r .dp) (ap (λ (t : PDp). pair (t .p) (t .dp)) er)
-
 -- ---- one lane
-module _ (i : Input) (n m : ℕ) (p d : List (List Float)) (q : Places) (hm : m < N-MAX) (w : Lanes i n m p d q) (u v : Float) where
+module _ (i : Input Float) (n m : ℕ) (p d : List (List Float)) (q : Places) (hm : m < N-MAX) (w : Lanes i n m p d q) (u v : Float) where
   abbrev small : m < M-LEN
   small = omega arith
 
@@ -124,7 +116,7 @@ module _ (i : Input) (n m : ℕ) (p d : List (List Float)) (q : Places) (hm : m 
         rest = λ l h hl. beside l (λ a. omega arith) ∙ w .rest l h (omega arith);
       }
 
-row-next : (i : Input) (n m m' : ℕ) (p d : List (List Float)) (q : Places) (t : List (List Float)) (r : PDp) (v : Xyz)
+row-next : (i : Input Float) (n m m' : ℕ) (p d : List (List Float)) (q : Places) (t : List (List Float)) (r : PDp) (v : Xyz)
     → m < N-MAX → m' ≡ m + 1 → r ≡ pdp (lane i n m) → (m ≤ n → v ≡ laneTerms i n m) → Row i n m p d q t
     → Row i n m' (put p (q .cur) m (r .p)) (put d (q .cur) m (r .dp)) q (putTerm t m v)
 row-next i n m m' p d q t r v hm em er ev w =
@@ -143,7 +135,7 @@ row-next i n m m' p d q t r v hm em er ev w =
 alike : (m n j : ℕ) → j + n ≡ m + N-MAX → ltb j N-MAX ≡ ltb m n
 alike m n j e = ⊎-elim (λ (h : m < n). lt-ltb j N-MAX (omega arith) ∙ sym (lt-ltb m n h)) (λ (h : n ≤ m). le-ltb j N-MAX (omega arith) ∙ sym (le-ltb m n h)) (less-or m n)
 
-module _ (i : Input) (ks cw sw kw ss gt ht os sin cos : List Float) (G : Given i ks ss gt ht os sin cos) (W : Weighed i cw sw kw) (n : ℕ) (z : 0 < n) (hn : n < M-LEN) where
+module _ (i : Input Float) (ks cw sw kw ss gt ht os sin cos : List Float) (G : Given i ks ss gt ht os sin cos) (W : Weighed i cw sw kw) (n : ℕ) (z : 0 < n) (hn : n < M-LEN) where
   -- k is the place of lane m in the table, j that in the lists of weights
   lane-is : (m l k j : ℕ) (p d : List (List Float)) (q : Places) (r : PDp) → m < N-MAX → 4 * (m / 4) ≤ n → k ≡ place n m → k < N-LEGENDRE → j + n ≡ m + N-MAX → j < W-LEN
       → r ≡ loweredAt m k j ks cw sw kw p d q → Lanes i n l p d q → r ≡ pdp (lane i n m)
@@ -192,13 +184,13 @@ module _ (i : Input) (ks cw sw kw ss gt ht os sin cos : List Float) (G : Given i
       (lane-done m (m + 1) k p d q t (r .r0) (omega arith) refl e (lane-is m m k j p d q (r .r0) (omega arith) (omega arith) e (omega arith) ej (omega arith) s0 (w .lanes)) w)))
 
 -- ---- one degree
-total-same : (i : Input) (f g : ℕ → Float) (k : ℕ) → ((m : ℕ) → m < k → f m ≡ g m) → total rounded i f k ≡ total rounded i g k
+total-same : (i : Input Float) (f g : ℕ → Float) (k : ℕ) → ((m : ℕ) → m < k → f m ≡ g m) → total rounded i f k ≡ total rounded i g k
 unfolding total rounded
 total-same i f g zero h = refl
 total-same i f g (suc k) h = rw (total-same i f g k (λ m l. h m (omega arith)), h k (omega arith))
 
 -- the terms of all orders, added up
-pub added : (i : Input) (n : ℕ) (t : List (List Float)) (acc : Xyz) → ((m : ℕ) → m < n + 1 → cellXyz t m ≡ laneTerms i n m) → acc ≡ totals i (cellXyz t) (n + 1) → acc ≡ laneSums i n
+pub added : (i : Input Float) (n : ℕ) (t : List (List Float)) (acc : Xyz) → ((m : ℕ) → m < n + 1 → cellXyz t m ≡ laneTerms i n m) → acc ≡ totals i (cellXyz t) (n + 1) → acc ≡ laneSums i n
 added i n t acc w e =
     e ∙
     rw (
@@ -208,7 +200,7 @@ added i n t acc w e =
     )
 
 -- the terms of all orders: those of the lanes, and in the last degree that of the order that has none
-pub all-terms : (i : Input) (n m : ℕ) (p d : List (List Float)) (q : Places) (t t' : List (List Float)) → n ≤ N-MAX → m ≤ N-MAX → (m < N-MAX → n < m) → Row i n m p d q t
+pub all-terms : (i : Input Float) (n m : ℕ) (p d : List (List Float)) (q : Places) (t t' : List (List Float)) → n ≤ N-MAX → m ≤ N-MAX → (m < N-MAX → n < m) → Row i n m p d q t
     → ((v : Xyz) × (n ≡ N-MAX) × (v ≡ laneTerms i n N-MAX) × (t' ≡ putTerm t N-MAX v)) ⊎ ((n ≡ N-MAX → ⊥) × (t' ≡ t))
     → (k : ℕ) → k < n + 1 → cellXyz t' k ≡ laneTerms i n k
 all-terms i n m p d q t t' hn hm l w s k h =
@@ -221,7 +213,7 @@ all-terms i n m p d q t t' hn hm l w s k h =
     s
 
 -- all lanes that the degree has are done; the others are where they started
-pub lanes-end : (i : Input) (n j : ℕ) (p d : List (List Float)) (q : Places) → 4 * (j / 4) ≡ j → (j < N-MAX → n < j) → Lanes i n j p d q → Lanes i n N-MAX p d q
+pub lanes-end : (i : Input Float) (n j : ℕ) (p d : List (List Float)) (q : Places) → 4 * (j / 4) ≡ j → (j < N-MAX → n < j) → Lanes i n j p d q → Lanes i n N-MAX p d q
 lanes-end i n j p d q f l w =
     record {
       p-sized = w .p-sized;
@@ -238,7 +230,7 @@ lanes-end i n j p d q f l w =
     }
 
 -- the degree is done: its row becomes the row before
-lanes-rotate : (i : Input) (n : ℕ) (p d : List (List Float)) (q : Places) → 0 < n → Lanes i n N-MAX p d q → Lanes i (n + 1) 0 p d (rotated q)
+lanes-rotate : (i : Input Float) (n : ℕ) (p d : List (List Float)) (q : Places) → 0 < n → Lanes i n N-MAX p d q → Lanes i (n + 1) 0 p d (rotated q)
 lanes-rotate i n p d q z w =
     let u : n + 1 - 1 ≡ n = omega arith in
     let v : n + 1 - 2 ≡ n - 1 = omega arith in
@@ -253,16 +245,26 @@ lanes-rotate i n p d q z w =
       rest = λ m h hm. rw t (w .prev2 m h);
     }
 
-more-degrees : (i : Input) (n : ℕ) (tot acc : Xyz) (ar : Float) → 0 < n → tot ≡ general i (n - 1) → ar ≡ power rounded i (n - 1) → acc ≡ rowSums i n
-    → addDegree tot n ar acc ≡ general i (n + 1 - 1)
-unfolding addDegree x-sum y-sum z-sum total lit rounded
+more-degrees : (i : Input Float) (n : ℕ) (tot acc : Xyz) (ar : Float) → 0 < n → tot ≡ laneTotal i (n - 1) → ar ≡ power rounded i (n - 1) → acc ≡ laneSums i n
+    → addDegree tot n ar acc ≡ laneTotal i (n + 1 - 1)
+unfolding laneTotal
 more-degrees i zero tot acc ar z et er ea = absurd (not-suc-le-zero z)
 more-degrees i (suc j) tot acc ar z et er ea =
     let u : suc j + 1 - 1 ≡ suc j = omega arith in
     let v : suc j - 1 ≡ j = omega arith in
     rw (et, er, ea, u, v)
 
-pub more-power : (i : Input) (n : ℕ) (ar : Float) → 0 < n → ar ≡ power rounded i (n - 1) → mul binary32 ar (i .ratio) ≡ power rounded i (n + 1 - 1)
+general-next : (i : Input Float) (n : ℕ) → addDegree (general i n) (suc n) (power rounded i n) (rowSums i (suc n)) ≡ general i (suc n)
+unfolding addDegree x-sum y-sum z-sum total rounded
+general-next i n = refl
+
+-- the sums from the lanes are the recurrence's
+pub lane-total : (i : Input Float) → Plain i → (N : ℕ) → N ≤ N-MAX → laneTotal i N ≡ general i N
+unfolding laneTotal
+lane-total i x zero l = unfold x-sum y-sum z-sum total rounded in refl
+lane-total i x (suc n) l = ap₂ (λ (t a : Xyz). addDegree t (suc n) (power rounded i n) a) (lane-total i x n (omega arith)) (lane-sums i x (suc n) l) ∙ general-next i n
+
+pub more-power : (i : Input Float) (n : ℕ) (ar : Float) → 0 < n → ar ≡ power rounded i (n - 1) → mul binary32 ar (i .ratio) ≡ power rounded i (n + 1 - 1)
 unfolding power rounded
 more-power i zero ar z e = absurd (not-suc-le-zero z)
 more-power i (suc j) ar z e =
@@ -271,10 +273,10 @@ more-power i (suc j) ar z e =
     rw (e, u, v)
 
 -- the invariant of the loop over the degrees
-pub record Outer (a : Lent) (n : ℕ) (p d : List (List Float)) (q : Places) (ar : Float) (tot : Xyz) : Type 0 where
-  pub lanes : Lanes (inputs a) n 0 p d q
-  pub ar-is : ar ≡ power rounded (inputs a) (n - 1)
-  pub tot-is : tot ≡ general (inputs a) (n - 1)
+pub record Outer (i : Input Float) (n : ℕ) (p d : List (List Float)) (q : Places) (ar : Float) (tot : Xyz) : Type 0 where
+  pub lanes : Lanes i n 0 p d q
+  pub ar-is : ar ≡ power rounded i (n - 1)
+  pub tot-is : tot ≡ laneTotal i (n - 1)
 
 -- before the first degree
 abbrev pub zeros : List (List Float)
@@ -286,7 +288,7 @@ places = record { prev2 = 0; prev1 = 1; cur = 2 }
 pub zeros-sized : Sized zeros
 zeros-sized = record { rows = refl; cells = λ k h. ap length (getD-replicate 3 k (replicate M-LEN (ofBits binary32 0)) [] h) }
 
-places-apart : Apart places
+pub places-apart : Apart places
 places-apart = record {
   prev2 = omega arith;
   prev1 = omega arith;
@@ -295,18 +297,6 @@ places-apart = record {
   prev2-cur = λ e. omega arith;
   prev1-prev2 = λ e. omega arith;
 }
-
-pub rows-start : (i : Input) (M : ℕ) → Rows i M 1 0 (put zeros 1 0 (ofBits binary32 0x3f800000)) zeros places
-unfolding legendre rounded lit ofInt ofBits round
-rows-start i M =
-    record {
-      p-sized = put-sized zeros 1 0 (ofBits binary32 0x3f800000) (omega arith) (omega arith) zeros-sized;
-      d-sized = zeros-sized;
-      apart = places-apart;
-      prev1 = λ m hM h. let e : m ≡ 0 = omega arith in rw e;
-      prev2 = λ m hM h. absurd (not-suc-le-zero h);
-      cur = λ m hM h. absurd (not-suc-le-zero h);
-    }
 
 -- three rows of start values
 abbrev pub thrice : List Float → List (List Float)
@@ -326,59 +316,57 @@ first-length f (suc n) = ap suc (first-length (λ k. f (suc k)) n)
 thrice-sized : (f : ℕ → Float) → Sized (thrice (first f M-LEN))
 thrice-sized f = record { rows = refl; cells = λ k h. ap length (thrice-at (first f M-LEN) k h) ∙ first-length f M-LEN }
 
-start-cells : (a : Lent) (k m : ℕ) → k < 3 → m < N-MAX → cells (thrice (startsOf (a .cos-theta) (a .sin-theta) .p)) (thrice (startsOf (a .cos-theta) (a .sin-theta) .dp)) k m ≡ lane (inputs a) 0 m
-unfolding lane inputs startsOf
-start-cells a k m hk h =
+start-cells : (i : Input Float) (k m : ℕ) → k < 3 → m < N-MAX → cells (thrice (startsOf (i .cos-theta) (i .sin-theta) .p)) (thrice (startsOf (i .cos-theta) (i .sin-theta) .dp)) k m ≡ lane i 0 m
+unfolding lane startsOf
+start-cells i k m hk h =
     let m13 : m < M-LEN = omega arith in
-    rw (thrice-at (startsOf (a .cos-theta) (a .sin-theta) .p) k hk, thrice-at (startsOf (a .cos-theta) (a .sin-theta) .dp) k hk, first-get (λ m. startAt (a .cos-theta) (a .sin-theta) m .fst) M-LEN m m13, first-get (λ m. startAt (a .cos-theta) (a .sin-theta) m .snd) M-LEN m m13) refl
+    rw (thrice-at (startsOf (i .cos-theta) (i .sin-theta) .p) k hk, thrice-at (startsOf (i .cos-theta) (i .sin-theta) .dp) k hk, first-get (λ m. startAt (i .cos-theta) (i .sin-theta) m .fst) M-LEN m m13, first-get (λ m. startAt (i .cos-theta) (i .sin-theta) m .snd) M-LEN m m13) refl
 
 -- before the first degree every lane of every row is at its start value
-lanes-start : (a : Lent) → Lanes (inputs a) 1 0 (thrice (startsOf (a .cos-theta) (a .sin-theta) .p)) (thrice (startsOf (a .cos-theta) (a .sin-theta) .dp)) places
-lanes-start a = record {
+lanes-start : (i : Input Float) → Lanes i 1 0 (thrice (startsOf (i .cos-theta) (i .sin-theta) .p)) (thrice (startsOf (i .cos-theta) (i .sin-theta) .dp)) places
+lanes-start i = record {
   p-sized = unfold startsOf in thrice-sized _;
   d-sized = unfold startsOf in thrice-sized _;
   apart = places-apart;
-  prev1 = λ m h. start-cells a 1 m (omega arith) h;
-  prev2 = λ m h. start-cells a 0 m (omega arith) h;
+  prev1 = λ m h. start-cells i 1 m (omega arith) h;
+  prev2 = λ m h. start-cells i 0 m (omega arith) h;
   done = λ m h hm. absurd (not-suc-le-zero hm);
-  rest = λ m h hm. start-cells a 2 m (omega arith) h;
+  rest = λ m h hm. start-cells i 2 m (omega arith) h;
 }
 
-pub outer-start : (a : Lent) (s : Starts) → s ≡ startsOf (a .cos-theta) (a .sin-theta)
-    → Outer a 1 (thrice (s .p)) (thrice (s .dp)) places (mul binary32 (mul binary32 (a .ratio) (a .ratio)) (a .ratio)) (record { x = ofBits binary32 0; y = ofBits binary32 0; z = ofBits binary32 0 })
-unfolding inputs power rounded x-sum y-sum z-sum total
-outer-start a s e = record { lanes = rw e (lanes-start a); ar-is = refl; tot-is = rw lit-zero }
+pub outer-start : (i : Input Float) (s : Starts) (ratio : Float) → s ≡ startsOf (i .cos-theta) (i .sin-theta) → ratio ≡ i .ratio
+    → Outer i 1 (thrice (s .p)) (thrice (s .dp)) places (mul binary32 (mul binary32 ratio ratio) ratio) (record { x = ofBits binary32 0; y = ofBits binary32 0; z = ofBits binary32 0 })
+unfolding power rounded laneTotal
+outer-start i s ratio e f = record { lanes = rw e (lanes-start i); ar-is = rw f; tot-is = rw lit-zero }
 
 -- the order that has no lane
-pub last-is : (a : Lent) (s : Starts) → s ≡ startsOf (a .cos-theta) (a .sin-theta) → record { p = getD (s .p) N-MAX nan; dp = getD (s .dp) N-MAX nan } ≡ pdp (start (inputs a) N-MAX)
-unfolding inputs startsOf
-last-is a s e = rw (e, first-get (λ m. startAt (a .cos-theta) (a .sin-theta) m .fst) M-LEN N-MAX (omega arith), first-get (λ m. startAt (a .cos-theta) (a .sin-theta) m .snd) M-LEN N-MAX (omega arith)) refl
+pub last-is : (i : Input Float) (s : Starts) → s ≡ startsOf (i .cos-theta) (i .sin-theta) → record { p = getD (s .p) N-MAX nan; dp = getD (s .dp) N-MAX nan } ≡ pdp (start i N-MAX)
+unfolding startsOf
+last-is i s e = rw (e, first-get (λ m. startAt (i .cos-theta) (i .sin-theta) m .fst) M-LEN N-MAX (omega arith), first-get (λ m. startAt (i .cos-theta) (i .sin-theta) m .snd) M-LEN N-MAX (omega arith)) refl
 
 -- the weights as the code writes them
-pub weighed : (a : Lent) (cw sw kw : List Float)
-    → ((j : ℕ) → j < W-LEN → getD cw j nan ≡ cond (ltb j N-MAX) (a .cos-theta) (ofBits binary32 0x3f800000))
-    → ((j : ℕ) → j < W-LEN → getD sw j nan ≡ cond (ltb j N-MAX) (a .sin-theta) (ofBits binary32 0))
+pub weighed : (i : Input Float) (c s : Float) (cw sw kw : List Float) → c ≡ i .cos-theta → s ≡ i .sin-theta
+    → ((j : ℕ) → j < W-LEN → getD cw j nan ≡ cond (ltb j N-MAX) c (ofBits binary32 0x3f800000))
+    → ((j : ℕ) → j < W-LEN → getD sw j nan ≡ cond (ltb j N-MAX) s (ofBits binary32 0))
     → ((j : ℕ) → j < W-LEN → getD kw j nan ≡ cond (ltb j N-MAX) (ofBits binary32 0x3f800000) (ofBits binary32 0))
-    → Weighed (inputs a) cw sw kw
-unfolding inputs
-weighed a cw sw kw ec es ek = record {
-  cos-theta = λ j h. rw lit-one at (ec j h);
-  sin-theta = λ j h. rw lit-zero at (es j h);
+    → Weighed i cw sw kw
+weighed i c s cw sw kw e f ec es ek = record {
+  cos-theta = λ j h. rw (e, lit-one) at (ec j h);
+  sin-theta = λ j h. rw (f, lit-zero) at (es j h);
   k = λ j h. rw (lit-one, lit-zero) at (ek j h);
 }
 
 -- before the first order
-pub begin : (i : Input) (n : ℕ) (p d : List (List Float)) (q : Places) → Lanes i n 0 p d q → Row i n 0 p d q zeros
+pub begin : (i : Input Float) (n : ℕ) (p d : List (List Float)) (q : Places) → Lanes i n 0 p d q → Row i n 0 p d q zeros
 begin i n p d q w = record { lanes = w; t-sized = zeros-sized; terms-are = λ m h hm. absurd (not-suc-le-zero h) }
 
-pub next-degree : (a : Lent) (n : ℕ) (p₀ d₀ p d : List (List Float)) (q q' : Places) (acc tot tot' : Xyz) (ar : Float)
-    → 0 < n → Outer a n p₀ d₀ q ar tot → acc ≡ rowSums (inputs a) n → Lanes (inputs a) n N-MAX p d q
+pub next-degree : (i : Input Float) (n : ℕ) (p₀ d₀ p d : List (List Float)) (q q' : Places) (acc tot tot' : Xyz) (ar ratio : Float)
+    → 0 < n → ratio ≡ i .ratio → Outer i n p₀ d₀ q ar tot → acc ≡ laneSums i n → Lanes i n N-MAX p d q
     → tot' ≡ addDegree tot n ar acc → q' ≡ rotated q
-    → Outer a (n + 1) p d q' (mul binary32 ar (a .ratio)) tot'
-unfolding inputs
-next-degree a n p₀ d₀ p d q q' acc tot tot' ar z o ea w ed eq =
+    → Outer i (n + 1) p d q' (mul binary32 ar ratio) tot'
+next-degree i n p₀ d₀ p d q q' acc tot tot' ar ratio z f o ea w ed eq =
     record {
-      lanes = rw eq (lanes-rotate (inputs a) n p d q z w);
-      ar-is = more-power (inputs a) n ar z (o .ar-is);
-      tot-is = ed ∙ more-degrees (inputs a) n tot acc ar z (o .tot-is) (o .ar-is) ea;
+      lanes = rw eq (lanes-rotate i n p d q z w);
+      ar-is = rw f (more-power i n ar z (o .ar-is));
+      tot-is = ed ∙ more-degrees i n tot acc ar z (o .tot-is) (o .ar-is) ea;
     }

@@ -12,16 +12,17 @@ use lib.Ieee.{Float, binary32, fits, neg, ofInt, round}
 use lib.Ieee.Fits.{add-fits, mul-fits, neg-fits, sub-fits}
 use lib.Ieee.Scale.{finite}
 use Rattle.tables.specs.Degree.{N-MAX}
-use Rattle.synthesis.specs.Arithmetic.{Pair, pair, rounded}
-use Rattle.synthesis.specs.Recurrence.{Input, dpsn, gc-hs, gs-hc, legendre, lit, psn, step, x-row, x-term, y-row, y-term, z-row, z-term}
+use Rattle.sums.specs.Arithmetic.{Pair, pair, rounded}
+use Rattle.sums.specs.Recurrence.{Input, dpsn, gc-hs, gs-hc, legendre, lit, psn, step, x-row, x-term, y-row, y-term, z-row, z-term}
 use Rattle.synthesis.specs.Code.{lane, laneStep, laneSums, laneTerms, lowered, rowSums, start, startAt, termOf}
-use Rattle.synthesis.specs.Same.{Same, same, zeros, mul-same, sub-same}
-use Rattle.synthesis.proofs.Kept.{Null, less-null, mul-null, null-less, null-mul, one-times, times-one}
-use Rattle.synthesis.proofs.RowsHold.{legendre-next, same-or}
-use Rattle.synthesis.proofs.Seen.{total-unseen}
+use Rattle.sums.specs.Same.{Same, same}
+use Rattle.sums.proofs.SameLaws.{mul-same, same-trans, sub-same}
+use Rattle.sums.proofs.Kept.{Null, less-null, mul-null, null-less, null-mul, one-times, times-one}
+use Rattle.sums.proofs.Step.{legendre-next, same-or}
+use Rattle.sums.proofs.ZeroSign.{total-unseen}
 
 -- what the law asks of what is read: numbers of the format, finite, and K(n, n - 1) a zero
-pub record Plain (i : Input) : Type 0 where
+pub record Plain (i : Input Float) : Type 0 where
   pub cos-held : T (fits binary32 (i .cos-theta))
   pub sin-held : T (fits binary32 (i .sin-theta))
   pub cos-finite : T (finite (i .cos-theta))
@@ -29,11 +30,6 @@ pub record Plain (i : Input) : Type 0 where
   pub K-finite : (n m : ℕ) → T (finite (i .K n m))
   pub K-last : (n : ℕ) → 0 < n → n ≤ N-MAX → Null (i .K n (n - 1))
   pub P-finite : (n m : ℕ) → n ≤ N-MAX → T (finite (legendre rounded i n m .fst)) × T (finite (legendre rounded i n m .snd))
-
-same-trans : {x y z : Float} → Same x y → Same y z → Same x z
-same-trans same q = q
-same-trans (zeros s t) same = zeros s t
-same-trans (zeros s t) (zeros u v) = zeros s v
 
 -- both numbers of a pair
 abbrev SameP : Pair Float → Pair Float → Type 0
@@ -50,7 +46,7 @@ lowered-same c s k p o = (
 )
 
 -- ---- one more degree, from the two before
-pub lane-next : (i : Input) (n m : ℕ) → 0 < n → lane i n m ≡ cond (ltb n (4 * (m / 4))) (start i m) (laneStep i n m (lane i (n - 1) m) (lane i (n - 2) m))
+pub lane-next : (i : Input Float) (n m : ℕ) → 0 < n → lane i n m ≡ cond (ltb n (4 * (m / 4))) (start i m) (laneStep i n m (lane i (n - 1) m) (lane i (n - 2) m))
 unfolding lane
 lane-next i zero m z = absurd (not-suc-le-zero z)
 lane-next i (suc zero) m z = refl
@@ -60,7 +56,7 @@ lane-next i (suc (suc n)) m z =
     rw (u, v) refl
 
 -- before its four lanes are taken
-pub lane-idle : (i : Input) (n m : ℕ) → n < 4 * (m / 4) → lane i n m ≡ start i m
+pub lane-idle : (i : Input Float) (n m : ℕ) → n < 4 * (m / 4) → lane i n m ≡ start i m
 lane-idle i zero m l = unfold lane in refl
 lane-idle i (suc n) m l = lane-next i (suc n) m (omega arith) ∙ rw (lt-ltb (suc n) (4 * (m / 4)) l) refl
 
@@ -82,12 +78,23 @@ first-branch : (c s k : Float) (q' q r : Pair Float) → step rounded c s k 1 0 
 unfolding step
 first-branch c s k q' q r = refl
 
+-- P of degree n from what its step reads of the two degrees before, in f32
+row-next : (i : Input Float) (n m : ℕ) → 0 < n → m ≤ n → (q' q r : Pair Float)
+    → (0 < m → q' ≡ legendre rounded i (n - 1) (m - 1)) → (m < n → q ≡ legendre rounded i (n - 1) m) → (m < n - 1 → r ≡ legendre rounded i (n - 2) m)
+    → step rounded (i .cos-theta) (i .sin-theta) (i .K n m) n m q' q r ≡ legendre rounded i n m
+unfolding rounded
+row-next i zero m z l q' q r a b d = absurd (not-suc-le-zero z)
+row-next i (suc n) m z l q' q r a b d =
+    let u : suc n - 1 ≡ n = omega arith in
+    let v : suc n - 2 ≡ n - 1 = omega arith in
+    legendre-next rounded i n m l q' q r (λ e. let f : m - 1 ≡ n = omega arith in rw (u, f) at (a (omega arith))) (λ h. rw u at (b (omega arith))) (λ h. rw v at (d (omega arith)))
+
 -- ---- the start values
 zero-null : Null (lit 0)
 unfolding lit ofInt round
 zero-null = (false, refl)
 
-module _ (i : Input) (w : Plain i) where
+module _ (i : Input Float) (w : Plain i) where
   start-is : (m : ℕ) → start i m ≡ legendre rounded i m m
   unfolding startAt
   start-is zero = unfold startAt legendre rounded in refl
@@ -95,7 +102,7 @@ module _ (i : Input) (w : Plain i) where
       let e : suc m - 1 ≡ m = omega arith in
       let a = start i m in
       sym (last-branch (i .cos-theta) (i .sin-theta) (i .K (suc m) (suc m)) (suc m) (suc m) a a a refl)
-      ∙ legendre-next i (suc m) (suc m) (omega arith) (omega arith) a a a (λ h. rw e (start-is m)) (λ h. absurd (omega arith)) (λ h. absurd (omega arith))
+      ∙ row-next i (suc m) (suc m) (omega arith) (omega arith) a a a (λ h. rw e (start-is m)) (λ h. absurd (omega arith)) (λ h. absurd (omega arith))
 
   start-held : (m : ℕ) → T (fits binary32 (start i m .fst)) × T (fits binary32 (start i m .snd))
   unfolding startAt rounded lit ofInt round fits
@@ -154,7 +161,7 @@ module _ (i : Input) (w : Plain i) where
   first : SameP (lowered (i .cos-theta) (i .sin-theta) (i .K 1 0) (start i 0) (start i 0)) (legendre rounded i 1 0)
   first =
       let a = start i 0 in
-      by-path first-near (sym (first-branch (i .cos-theta) (i .sin-theta) (i .K 1 0) a a a) ∙ legendre-next i 1 0 (omega arith) (omega arith) a a a (λ h. absurd (not-suc-le-zero h)) (λ h. start-is 0) (λ h. absurd (not-suc-le-zero h)))
+      by-path first-near (sym (first-branch (i .cos-theta) (i .sin-theta) (i .K 1 0) a a a) ∙ row-next i 1 0 (omega arith) (omega arith) a a a (λ h. absurd (not-suc-le-zero h)) (λ h. start-is 0) (λ h. absurd (not-suc-le-zero h)))
 
   -- order n - 1, from degree 2 on
   module _ (n m : ℕ) (l : 1 < n) (M : n ≤ N-MAX) (e : m + 1 ≡ n) where
@@ -173,12 +180,12 @@ module _ (i : Input) (w : Plain i) where
     next : SameP (lowered (i .cos-theta) (i .sin-theta) (i .K n m) over (start i m)) (legendre rounded i n m)
     next =
         let q' = legendre rounded i (n - 1) (m - 1) in
-        by-path next-near (sym (next-branch (i .cos-theta) (i .sin-theta) (i .K n m) n m q' over over (λ h. omega arith) e) ∙ legendre-next i n m (omega arith) (omega arith) q' over over (λ h. refl) (λ h. refl) (λ h. absurd (omega arith)))
+        by-path next-near (sym (next-branch (i .cos-theta) (i .sin-theta) (i .K n m) n m q' over over (λ h. omega arith) e) ∙ row-next i n m (omega arith) (omega arith) q' over over (λ h. refl) (λ h. refl) (λ h. absurd (omega arith)))
 
   lower : (n m : ℕ) → m + 2 ≤ n → lowered (i .cos-theta) (i .sin-theta) (i .K n m) (legendre rounded i (n - 1) m) (legendre rounded i (n - 2) m) ≡ legendre rounded i n m
   lower n m l =
       let q' = legendre rounded i (n - 1) (m - 1) in
-      sym (lower-branch (i .cos-theta) (i .sin-theta) (i .K n m) n m q' _ _ l) ∙ legendre-next i n m (omega arith) (omega arith) q' _ _ (λ h. refl) (λ h. refl) (λ h. refl)
+      sym (lower-branch (i .cos-theta) (i .sin-theta) (i .K n m) n m q' _ _ l) ∙ row-next i n m (omega arith) (omega arith) q' _ _ (λ h. refl) (λ h. refl) (λ h. refl)
 
   taken : (n m : ℕ) → 0 < n → m < n → lane i n m ≡ lowered (i .cos-theta) (i .sin-theta) (i .K n m) (lane i (n - 1) m) (lane i (n - 2) m)
   taken n m z l = lane-next i n m z ∙ rw (le-ltb n (4 * (m / 4)) (omega arith)) (stepped-below n m l (lane i (n - 1) m) (lane i (n - 2) m))

@@ -1,4 +1,5 @@
--- Laws that the proofs of the loops lean on.
+-- Demand 3 for Sum; then laws that the proofs of the loops lean on.
+pub mod Demand
 pub mod PlaceSizes
 pub mod Filled
 pub mod RowsHold
@@ -6,7 +7,6 @@ pub mod GeneralSum
 pub mod PoleSum
 pub mod Checked
 pub mod Carry
-pub mod Kept
-pub mod Seen
 pub mod LaneLaws
 pub mod AcceptedPlain
+pub mod Unique

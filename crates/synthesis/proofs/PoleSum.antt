@@ -1,122 +1,110 @@
--- One more order and one more degree of the sum near the pole.
-use mathlib.Core.Path.{_≡_, refl, _∙_}
-use mathlib.Core.Bool.{cond}
-use mathlib.Core.List.{List}
+-- One more degree of the sum near the pole.
+use mathlib.Core.Path.{_≡_, refl, ap₂, _∙_}
 use Prim.Native.Nat.{ℕ, zero, suc, _+_, _-_, _<_, _≤_}
-use native.Mathlib.Nat.{not-suc-le-zero, le-of-suc-le-suc}
+use native.Mathlib.Nat.{not-suc-le-zero}
 use native.Mathlib.Omega.{arith}
 use borrow.Author.Tests.{ne-eqb}
-use lib.Dec.{ltb}
 use lib.ListN.{getD}
 use lib.Ieee.{Float, nan, binary32, mul, ofBits}
-use Rattle.tables.specs.Tables.{schmidtAt, kAt}
-use Rattle.tables.specs.Degree.{M-LEN, place}
+use mathlib.Core.List.{List}
+use Rattle.tables.specs.Tables.{kTable, schmidtTable}
+use Rattle.tables.specs.Degree.{M-LEN, N-LEGENDRE, place}
 use Rattle.synthesis.specs.declared.rows.PDp.{PDp}
-use Rattle.synthesis.specs.declared.rows.Places.{Places}
-use Rattle.synthesis.specs.declared.angles.SinCos.{SinCos}
+use Rattle.synthesis.specs.declared.near_pole.PoleRow.{PoleRow}
+use Rattle.synthesis.specs.declared.date.Gh.{Gh}
 use Rattle.synthesis.specs.declared.Xyz.{Xyz}
-use Rattle.synthesis.specs.Recurrence.{Input, coefficient, dpsn, g-at, h-at, legendre, lit, pole-angle, pole-gc, pole-gs, pole-x, pole-x-row, pole-x-term, pole-y, pole-z, pole-z-row, pole-z-term, power, psn, quotient, total}
-use Rattle.synthesis.specs.Sum.{Lent, at, inputs}
-use Rattle.synthesis.proofs.GeneralSum.{Long, g-read, h-read, lit-one, lit-zero, more-power, places, row-is, row-put, rows-start, zeros}
-use Rattle.synthesis.proofs.RowsHold.{rows-rotate}
-use Rattle.synthesis.specs.Code.{Rows, addPoleDegree, addPoleOrder, nearPole, nextQ, pdp, put, rotated, sinCos, stepped}
-use Rattle.synthesis.specs.Arithmetic.{rounded}
+use Rattle.sums.specs.Arithmetic.{pair, rounded}
+use Rattle.sums.specs.Recurrence.{Input, dpsn, legendre, lit, pole-angle, pole-east, pole-gc, pole-gs, pole-x, pole-x-row, pole-y, pole-z, pole-z-row, power, psn, quotient, total}
+use Rattle.sums.specs.Paths.{POLE-ORDERS, placed}
+use Rattle.synthesis.specs.Sum.{Lent, inputs}
+use Rattle.synthesis.specs.Code.{addPoleDegree, ghAt, nearPole, nextQ, nextRow, pdp, poleParts, termOf}
+use Rattle.synthesis.proofs.GeneralSum.{Long, g-read, h-read, k-place, lit-one, lit-zero, s-place}
+use Rattle.synthesis.proofs.PlaceSizes.{most}
 
--- the recurrence of the quotient
-pub quotient-next : (a : Lent) (n : ℕ) (k q1 q2 q : Float) → 0 < n → q1 ≡ quotient rounded (inputs a) (n - 1) → q2 ≡ quotient rounded (inputs a) (n - 2) → k ≡ kAt (place n 1) → q ≡ nextQ n k (a .cos-theta) q1 q2
-    → q ≡ quotient rounded (inputs a) n
-unfolding nextQ quotient rounded inputs
-quotient-next a zero kv q1 q2 q z e1 e2 ek e = absurd (not-suc-le-zero z)
-quotient-next a (suc zero) kv q1 q2 q z e1 e2 ek e = e ∙ lit-one
-quotient-next a (suc (suc k)) kv q1 q2 q z e1 e2 ek e =
-    let u : suc (suc k) - 1 ≡ suc k = omega arith in
-    let v : suc (suc k) - 2 ≡ k = omega arith in
-    let n1 : suc (suc k) ≡ 1 → ⊥ = λ h. omega arith in
-    e ∙ simp (ne-eqb (suc (suc k)) 1 n1) (rw (e1, e2, ek, u, v))
+-- what degree n hands on, and what the degree before it did; before degree 0 the recurrence reads 0
+abbrev pub row : Input Float → ℕ → PoleRow
+row i n = record { r0 = pdp (legendre rounded i n 0); r1 = pdp (legendre rounded i n 1); q = quotient rounded i n }
 
--- the sums of degree n over the orders below j; the east sum takes the degree with its order 1
-abbrev pub partial : Input → ℕ → ℕ → Xyz
-partial i n j = record { x = total rounded i (pole-x-term rounded i n) j; y = pole-y rounded i (cond (ltb j 2) (n - 1) n); z = total rounded i (pole-z-term rounded i n) j }
+unfoldable pub row-before : Input Float → ℕ → PoleRow
+row-before i zero = record { r0 = pdp (pair (lit 0) (lit 0)); r1 = pdp (pair (lit 0) (lit 0)); q = lit 1 }
+row-before i (suc n) = row i n
 
-more-terms : (i : Input) (n m : ℕ) (acc : Xyz) (r : PDp) (sn gt ht ar q : Float) (u : SinCos)
-    → 0 < n → m < 2 → acc ≡ partial i n m → r ≡ pdp (legendre rounded i n m) → sn ≡ i .S n m → gt ≡ g-at rounded i n m → ht ≡ h-at rounded i n m
-    → u ≡ sinCos (pole-angle rounded (i .sin-lambda) (i .cos-lambda) m) → ar ≡ power rounded i (n - 1) → q ≡ quotient rounded i n
-    → addPoleOrder acc m sn r gt ht u ar q ≡ partial i n (m + 1)
-unfolding addPoleOrder total pole-y pole-gc pole-gs psn dpsn rounded
-more-terms i n zero acc r sn gt ht ar q u z l ea er es eg eh eu e1 e2 = rw (ea, er, es, eg, eh, eu)
-more-terms i zero (suc zero) acc r sn gt ht ar q u z l ea er es eg eh eu e1 e2 = absurd (not-suc-le-zero z)
-more-terms i (suc j) (suc zero) acc r sn gt ht ar q u z l ea er es eg eh eu e1 e2 =
-    let v : suc j - 1 ≡ j = omega arith in
-    rw (ea, er, es, eg, eh, eu, e1, e2, v)
-more-terms i n (suc (suc m)) acc r sn gt ht ar q u z l ea er es eg eh eu e1 e2 = absurd (not-suc-le-zero (le-of-suc-le-suc (le-of-suc-le-suc l)))
+-- a degree's parts of the sums, ar the power of the ratio
+abbrev parts : Input Float → ℕ → Float → Xyz
+parts i n ar = record { x = pole-x-row rounded i POLE-ORDERS n; y = pole-east rounded ar (pole-gs rounded i n 1) (quotient rounded i n) (i .S n 1); z = pole-z-row rounded i POLE-ORDERS n }
 
-more-degrees : (i : Input) (n : ℕ) (tot acc : Xyz) (ar : Float) → 0 < n → tot ≡ nearPole i (n - 1) → ar ≡ power rounded i (n - 1) → acc ≡ partial i n 2
-    → addPoleDegree tot n ar acc ≡ nearPole i (n + 1 - 1)
-unfolding addPoleDegree pole-x pole-y pole-z pole-x-row pole-z-row total lit rounded
-more-degrees i zero tot acc ar z et er ea = absurd (not-suc-le-zero z)
-more-degrees i (suc j) tot acc ar z et er ea =
-    let u : suc j + 1 - 1 ≡ suc j = omega arith in
-    let v : suc j - 1 ≡ j = omega arith in
-    rw (et, er, ea, u, v)
+abbrev gh : Float → Float → Gh
+gh x y = record { g = x; h = y }
 
--- ---- the loops' invariants
-pub record Inner (a : Lent) (n m : ℕ) (p d : List (List Float)) (k : Places) (acc : Xyz) : Type 0 where
-  pub rows : Rows (inputs a) 2 n m p d k
-  pub acc-is : acc ≡ partial (inputs a) n m
+next-row : (i : Input Float) (n : ℕ) → nextRow (suc n) (i .K (suc n) 0) (i .K (suc n) 1) (i .cos-theta) (i .sin-theta) (row i n) (row-before i n) ≡ row i (suc n)
+unfolding nextRow nextQ row-before legendre quotient rounded
+next-row i zero = rw lit-one
+next-row i (suc n) =
+    let n1 : suc (suc n) ≡ 1 → ⊥ = λ h. omega arith in
+    simp (ne-eqb (suc (suc n)) 1 n1)
 
-pub record Outer (a : Lent) (n : ℕ) (p d : List (List Float)) (k : Places) (ar : Float) (tot : Xyz) (q1 q2 : Float) : Type 0 where
-  pub rows : Rows (inputs a) 2 n 0 p d k
-  pub ar-is : ar ≡ power rounded (inputs a) (n - 1)
-  pub tot-is : tot ≡ nearPole (inputs a) (n - 1)
-  pub q1-is : q1 ≡ quotient rounded (inputs a) (n - 1)
-  pub q2-is : q2 ≡ quotient rounded (inputs a) (n - 2)
+parts-are : (i : Input Float) (n : ℕ) (ar : Float) → poleParts (row i n) (gh (i .g n 0) (i .h n 0)) (gh (i .g n 1) (i .h n 1)) (i .S n 0) (i .S n 1) (record { sin = i .sin-lambda; cos = i .cos-lambda }) ar ≡ parts i n ar
+unfolding poleParts termOf pole-x-row pole-z-row pole-gc pole-gs pole-angle psn dpsn total rounded
+parts-are i n ar = rw (lit-zero, lit-one)
 
-pub start : (a : Lent) → Outer a 1 (put zeros 1 0 (ofBits binary32 0x3f800000)) zeros places (mul binary32 (mul binary32 (a .ratio) (a .ratio)) (a .ratio))
-    (record { x = ofBits binary32 0; y = ofBits binary32 0; z = ofBits binary32 0 }) (ofBits binary32 0x3f800000) (ofBits binary32 0x3f800000)
-unfolding inputs power quotient rounded pole-x pole-y pole-z total
-start a = record { rows = rows-start (inputs a) 2; ar-is = refl; tot-is = rw lit-zero; q1-is = lit-one; q2-is = lit-one }
+more-degrees : (i : Input Float) (n : ℕ) → addPoleDegree (nearPole i n) (suc n) (power rounded i n) (parts i (suc n) (power rounded i n)) ≡ nearPole i (suc n)
+unfolding addPoleDegree pole-x pole-y pole-z total rounded
+more-degrees i n = refl
 
-pub begin : (a : Lent) (n : ℕ) (p d : List (List Float)) (k : Places) (ar : Float) (tot : Xyz) (q1 q2 : Float) → Outer a n p d k ar tot q1 q2
-    → Inner a n 0 p d k (record { x = ofBits binary32 0; y = tot .y; z = ofBits binary32 0 })
-unfolding total rounded
-begin a n p d k ar tot q1 q2 w = record { rows = w .rows; acc-is = rw (lit-zero, w .tot-is) }
+-- the coefficients of degree n and order m, from the lists
+dates : (a : Lent) (n m j : ℕ) → Long a → 0 < n → n < M-LEN → m ≤ n → j ≡ place n m - 1 → ghAt (a .g) (a .h) (a .g-dot) (a .h-dot) (a .offset) j ≡ gh (inputs rounded a .g n m) (inputs rounded a .h n m)
+dates a n m j L z hn hm e = ap₂ gh (g-read a n m j z hn hm e (L .g) (L .g-dot)) (h-read a n m j z hn hm e (L .h) (L .h-dot))
 
-pub next-order : (a : Lent) (n m : ℕ) (p d : List (List Float)) (k : Places) (acc acc' : Xyz) (r : PDp) (ix : ℕ) (kv sn gt ht ar q : Float) (u : SinCos)
-    → Long a → 0 < n → n < M-LEN → m < 2 → Inner a n m p d k acc
-    → ar ≡ power rounded (inputs a) (n - 1) → q ≡ quotient rounded (inputs a) n
-    → kv ≡ kAt (place n m)
-    → r ≡ stepped (a .cos-theta) (a .sin-theta) kv n m p d k
-    → ix ≡ place n m - 1
-    → gt ≡ coefficient rounded (getD (a .g) ix nan) (getD (a .g-dot) ix nan) (a .offset)
-    → ht ≡ coefficient rounded (getD (a .h) ix nan) (getD (a .h-dot) ix nan) (a .offset)
-    → sn ≡ schmidtAt (place n m)
-    → u ≡ sinCos (pole-angle rounded (a .sin-lambda) (a .cos-lambda) m)
-    → acc' ≡ addPoleOrder acc m sn r gt ht u ar q
-    → Inner a n (m + 1) (put p (k .cur) m (r .p)) (put d (k .cur) m (r .dp)) k acc'
-unfolding inputs
-next-order a n m p d k acc acc' r ix kv sn gt ht ar q u L z hn h2 w e1 e2 ek er ei eg eh es eu ea =
-    let hm : m ≤ n = omega arith in
-    let m13 : m < M-LEN = omega arith in
-    let er' : r ≡ pdp (legendre rounded (inputs a) n m) = row-is (inputs a) 2 n m m p d k z hm h2 r (a .cos-theta) (a .sin-theta) kv refl refl ek er (w .rows) in
+-- ---- the loop's invariant: n degrees are done
+pub record Outer (a : Lent) (n : ℕ) (prev1 prev2 : PoleRow) (ar : Float) (tot : Xyz) : Type 0 where
+  pub prev1-is : prev1 ≡ row (inputs rounded a) n
+  pub prev2-is : prev2 ≡ row-before (inputs rounded a) n
+  pub ar-is : ar ≡ power rounded (inputs rounded a) n
+  pub tot-is : tot ≡ nearPole (inputs rounded a) n
+
+-- P(0, 0) is 1, and all else is 0
+abbrev zero-pdp : PDp
+zero-pdp = record { p = ofBits binary32 0; dp = ofBits binary32 0 }
+
+pub start : (a : Lent)
+    → Outer a 0 (record { r0 = record { p = ofBits binary32 0x3f800000; dp = ofBits binary32 0 }; r1 = zero-pdp; q = ofBits binary32 0x3f800000 }) (record { r0 = zero-pdp; r1 = zero-pdp; q = ofBits binary32 0x3f800000 })
+    (mul binary32 (mul binary32 (a .ratio) (a .ratio)) (a .ratio)) (record { x = ofBits binary32 0; y = ofBits binary32 0; z = ofBits binary32 0 })
+unfolding inputs placed power quotient legendre row-before rounded pole-x pole-y pole-z total
+start a = record { prev1-is = rw (lit-zero, lit-one); prev2-is = rw (lit-zero, lit-one); ar-is = refl; tot-is = rw lit-zero }
+
+-- the next degree; its order 0 stands at place j of the tables
+next : (a : Lent) (n j : ℕ) (ks ss : List Float) (prev1 prev2 new : PoleRow) (ar : Float) (tot tot' v : Xyz)
+    → Long a → suc n < M-LEN → j ≡ place (suc n) 0 → ks ≡ kTable → ss ≡ schmidtTable → Outer a n prev1 prev2 ar tot
+    → new ≡ nextRow (suc n) (getD ks j nan) (getD ks (j + 1) nan) (a .cos-theta) (a .sin-theta) prev1 prev2
+    → v ≡ poleParts new (ghAt (a .g) (a .h) (a .g-dot) (a .h-dot) (a .offset) (j - 1)) (ghAt (a .g) (a .h) (a .g-dot) (a .h-dot) (a .offset) j) (getD ss j nan) (getD ss (j + 1) nan) (record { sin = a .sin-lambda; cos = a .cos-lambda }) ar
+    → tot' ≡ addPoleDegree tot (suc n) ar v
+    → Outer a (suc n) new prev1 (mul binary32 ar (a .ratio)) tot'
+unfolding inputs placed power row-before rounded
+next a n j ks ss prev1 prev2 new ar tot tot' v L hn ej ek es o en ev et =
+    let i = inputs rounded a in
+    let z : 0 < suc n = omega arith in
+    let h1 : 1 ≤ suc n = omega arith in
+    let p0 : (j ≡ place (suc n) 0) × (j < N-LEGENDRE) = (ej, omega (arith, most (suc n) hn)) in
+    let p1 : (j + 1 ≡ place (suc n) 1) × (j + 1 < N-LEGENDRE) = (omega arith, omega (arith, most (suc n) hn)) in
+    let er : new ≡ row i (suc n) = en ∙ rw (k-place ks j (suc n) 0 ek p0, k-place ks (j + 1) (suc n) 1 ek p1, o .prev1-is, o .prev2-is) (next-row i n) in
+    let d0 = dates a (suc n) 0 (j - 1) L z hn (omega arith) (omega arith) in
+    let d1 = dates a (suc n) 1 j L z hn h1 (omega arith) in
+    let ep : v ≡ parts i (suc n) (power rounded i n) = ev ∙ rw (er, d0, d1, s-place ss j (suc n) 0 es p0, s-place ss (j + 1) (suc n) 1 es p1, o .ar-is) (parts-are i (suc n) (power rounded i n)) in
     record {
-      rows = row-put (inputs a) 2 n m p d k z hm h2 m13 r er' (w .rows);
-      acc-is =
-          ea ∙ more-terms (inputs a) n m acc r sn gt ht ar q u z h2 (w .acc-is) er' es
-          (eg ∙ g-read a n m ix z hn hm ei (L .g) (L .g-dot)) (eh ∙ h-read a n m ix z hn hm ei (L .h) (L .h-dot)) eu e1 e2;
+      prev1-is = er;
+      prev2-is = o .prev1-is;
+      ar-is = rw (o .ar-is);
+      tot-is = et ∙ rw (o .tot-is, o .ar-is, ep) (more-degrees i n);
     }
 
-pub next-degree : (a : Lent) (n m : ℕ) (p₀ d₀ p d : List (List Float)) (k k' : Places) (acc tot tot' : Xyz) (ar q1 q2 q : Float)
-    → 0 < n → m ≡ 2 → Outer a n p₀ d₀ k ar tot q1 q2 → Inner a n m p d k acc → q ≡ quotient rounded (inputs a) n
-    → tot' ≡ addPoleDegree tot n ar acc → k' ≡ rotated k
-    → Outer a (n + 1) p d k' (mul binary32 ar (a .ratio)) tot' q q1
-unfolding inputs
-next-degree a n m p₀ d₀ p d k k' acc tot tot' ar q1 q2 q z em o w eq ed ek =
-    let u : n + 1 - 1 ≡ n = omega arith in
-    let v : n + 1 - 2 ≡ n - 1 = omega arith in
-    record {
-      rows = rw ek (rows-rotate (inputs a) 2 n m p d k z (λ j hM h. omega arith) (w .rows));
-      ar-is = more-power (inputs a) n ar z (o .ar-is);
-      tot-is = ed ∙ more-degrees (inputs a) n tot acc ar z (o .tot-is) (o .ar-is) (rw em at (w .acc-is));
-      q1-is = rw u eq;
-      q2-is = rw v (o .q1-is);
-    }
+pub next-degree : (a : Lent) (n j : ℕ) (ks ss : List Float) (prev1 prev2 new : PoleRow) (ar : Float) (tot tot' v : Xyz)
+    → 0 < n → Long a → n < M-LEN → j ≡ place n 0 → ks ≡ kTable → ss ≡ schmidtTable → Outer a (n - 1) prev1 prev2 ar tot
+    → new ≡ nextRow n (getD ks j nan) (getD ks (j + 1) nan) (a .cos-theta) (a .sin-theta) prev1 prev2
+    → v ≡ poleParts new (ghAt (a .g) (a .h) (a .g-dot) (a .h-dot) (a .offset) (j - 1)) (ghAt (a .g) (a .h) (a .g-dot) (a .h-dot) (a .offset) j) (getD ss j nan) (getD ss (j + 1) nan) (record { sin = a .sin-lambda; cos = a .cos-lambda }) ar
+    → tot' ≡ addPoleDegree tot n ar v
+    → Outer a (n + 1 - 1) new prev1 (mul binary32 ar (a .ratio)) tot'
+next-degree a zero j ks ss prev1 prev2 new ar tot tot' v z L hn ej ek es o en ev et = absurd (not-suc-le-zero z)
+next-degree a (suc n) j ks ss prev1 prev2 new ar tot tot' v z L hn ej ek es o en ev et =
+    let u : suc n + 1 - 1 ≡ suc n = omega arith in
+    let w : suc n - 1 ≡ n = omega arith in
+    rw u (next a n j ks ss prev1 prev2 new ar tot tot' v L hn ej ek es (rw w at o) en ev et)

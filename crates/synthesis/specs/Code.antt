@@ -13,10 +13,13 @@ use Rattle.synthesis.specs.declared.rows.PDp.{PDp}
 use Rattle.synthesis.specs.declared.rows.Places.{Places}
 use Rattle.synthesis.specs.declared.angles.Angles.{Angles}
 use Rattle.synthesis.specs.declared.angles.SinCos.{SinCos}
+use Rattle.synthesis.specs.declared.date.Gh.{Gh}
+use Rattle.synthesis.specs.declared.near_pole.PoleRow.{PoleRow}
 use Rattle.synthesis.specs.declared.lanes.Starts.{Starts}
-use Rattle.synthesis.specs.Recurrence.{Input, angle, coefficient, down, dps, g-at, gc, gs, h-at, legendre, lit, next-quotient, pole-east, pole-x, pole-y, pole-z, power, ps, step, total, x-row, x-sum, y-row, y-sum, z-row, z-sum}
-use Rattle.synthesis.specs.Sum.{Lent, POLE-ORDERS, main-cap, rate-cap}
-use Rattle.synthesis.specs.Arithmetic.{Pair, pair, rounded}
+use Rattle.sums.specs.Recurrence.{Input, angle, coefficient, downward, dps, gc, gs, lit, next-quotient, pole-east, pole-x, pole-y, pole-z, power, ps, step, total, x-row, x-sum, y-row, y-sum, z-row, z-sum}
+use Rattle.synthesis.specs.Sum.{main-cap, rate-cap}
+use Rattle.sums.specs.Paths.{POLE-ORDERS}
+use Rattle.sums.specs.Arithmetic.{Pair, pair, rounded}
 use Rattle.exact.specs.Tests.{all-between}
 
 -- P and its derivative, and back
@@ -40,10 +43,6 @@ put p k m v = set p k (set (getD p k []) m v)
 -- row k with four values from order m on
 abbrev pub put4 : List (List Float) → ℕ → ℕ → Float → Float → Float → Float → List (List Float)
 put4 p k m a b c d = put (put (put (put p k m a) k (m + 1) b) k (m + 2) c) k (m + 3) d
-
--- the row step at n, m, from the rows
-abbrev pub stepped : Float → Float → Float → ℕ → ℕ → List (List Float) → List (List Float) → Places → PDp
-stepped c s k n m p d q = pdp (step rounded c s k n m (cells p d (q .prev1) (m - 1)) (cells p d (q .prev1) m) (cells p d (q .prev2) m))
 
 -- the row step's last branch alone: q of degree n - 1, r of degree n - 2
 abbrev pub lowered : Float → Float → Float → Pair Float → Pair Float → Pair Float
@@ -81,7 +80,7 @@ startAt c s (suc m) = let a = startAt c s m in pair (rounded .times s (a .fst)) 
 unfoldable pub startsOf : Float → Float → Starts
 startsOf c s = record { p = first (λ m. startAt c s m .fst) M-LEN; dp = first (λ m. startAt c s m .snd) M-LEN }
 
-abbrev pub start : Input → ℕ → Pair Float
+abbrev pub start : Input Float → ℕ → Pair Float
 start i m = startAt (i .cos-theta) (i .sin-theta) m
 
 -- what a lane is multiplied by in degree n: one number below the degree, another from it on
@@ -89,11 +88,11 @@ abbrev pub weight : Float → Float → ℕ → ℕ → Float
 weight below then n m = cond (ltb m n) below then
 
 -- the step of lane m in degree n: below the degree the row step's last branch, from it on the lane is kept
-unfoldable pub laneStep : Input → ℕ → ℕ → Pair Float → Pair Float → Pair Float
+unfoldable pub laneStep : Input Float → ℕ → ℕ → Pair Float → Pair Float → Pair Float
 laneStep i n m q r = lowered (weight (i .cos-theta) (lit 1) n m) (weight (i .sin-theta) (lit 0) n m) (rounded .times (i .K n m) (weight (lit 1) (lit 0) n m)) q r
 
 -- what lane m holds in degree n. Its four lanes are taken from the degree on that the first of them has
-unfoldable pub lane : Input → ℕ → ℕ → Pair Float
+unfoldable pub lane : Input Float → ℕ → ℕ → Pair Float
 lane i zero m = start i m
 lane i (suc zero) m = cond (ltb 1 (4 * (m / 4))) (start i m) (laneStep i 1 m (start i m) (start i m))
 lane i (suc (suc n)) m = cond (ltb (suc (suc n)) (4 * (m / 4))) (start i m) (laneStep i (suc (suc n)) m (lane i (suc n) m) (lane i n m))
@@ -127,19 +126,19 @@ cellXyz t m = record { x = cell t 0 m; y = cell t 1 m; z = cell t 2 m }
 unfoldable pub putTerm : List (List Float) → ℕ → Xyz → List (List Float)
 putTerm t m v = put (put (put t 0 m (v .x)) 1 m (v .y)) 2 m (v .z)
 
--- the terms of the orders m to m + 3 stored, k the place of m in the tables
+-- the terms of the orders m and m + 1 stored, k the place of m in the tables; then of m to m + 3
+abbrev pub put2Terms : List (List Float) → ℕ → ℕ → PDp → PDp → List Float → List Float → List Float → List Float → List Float → List Float → List (List Float)
+put2Terms t m k a b ss gt ht os sin cos = putTerm (putTerm t m (termAt m k a ss gt ht os sin cos)) (m + 1) (termAt (m + 1) (k + 1) b ss gt ht os sin cos)
+
 abbrev pub put4Terms : List (List Float) → ℕ → ℕ → Four → List Float → List Float → List Float → List Float → List Float → List Float → List (List Float)
 put4Terms t m k r ss gt ht os sin cos =
     putTerm
-    (putTerm
-    (putTerm (putTerm t m (termAt m k (r .r0) ss gt ht os sin cos)) (m + 1) (termAt (m + 1) (k + 1) (r .r1) ss gt ht os sin cos))
-    (m + 2)
-    (termAt (m + 2) (k + 2) (r .r2) ss gt ht os sin cos))
+    (putTerm (put2Terms t m k (r .r0) (r .r1) ss gt ht os sin cos) (m + 2) (termAt (m + 2) (k + 2) (r .r2) ss gt ht os sin cos))
     (m + 3)
     (termAt (m + 3) (k + 3) (r .r3) ss gt ht os sin cos)
 
 -- the first k terms, added up from 0; i is not read
-abbrev pub totals : Input → (ℕ → Xyz) → ℕ → Xyz
+abbrev pub totals : Input Float → (ℕ → Xyz) → ℕ → Xyz
 totals i f k = record { x = total rounded i (λ m. f m .x) k; y = total rounded i (λ m. f m .y) k; z = total rounded i (λ m. f m .z) k }
 
 -- the sums with one degree more
@@ -148,23 +147,24 @@ addDegree t n power a =
     record {
       x = rounded .plus (t .x) (rounded .times power (a .x));
       y = rounded .plus (t .y) (rounded .times power (a .y));
-      z = rounded .plus (t .z) (down rounded n power (a .z));
+      z = rounded .plus (t .z) (downward rounded n power (a .z));
     }
 
 -- the terms of degree n by order, from the lanes; order N-MAX has none and stays at its start value
-abbrev pub laneTerms : Input → ℕ → ℕ → Xyz
+abbrev pub laneTerms : Input Float → ℕ → ℕ → Xyz
 laneTerms i n m =
-    termOf (lit m) (i .S n m) (pdp (cond (ltb m N-MAX) (lane i n m) (start i m))) (g-at rounded i n m) (h-at rounded i n m) (sinAt (i .sin-lambda) (i .cos-lambda) m) (cosAt (i .sin-lambda) (i .cos-lambda) m)
+    termOf (lit m) (i .S n m) (pdp (cond (ltb m N-MAX) (lane i n m) (start i m))) (i .g n m) (i .h n m) (sinAt (i .sin-lambda) (i .cos-lambda) m) (cosAt (i .sin-lambda) (i .cos-lambda) m)
 
-abbrev pub laneSums : Input → ℕ → Xyz
+abbrev pub laneSums : Input Float → ℕ → Xyz
 laneSums i n = totals i (laneTerms i n) (n + 1)
 
--- what is lent, from its parts
-abbrev pub lent : Float → Float → Float → Float → Float → Float → List Float → List Float → List Float → List Float → Lent
-lent c s sl cl ratio t g h gd hd = record { cos-theta = c; sin-theta = s; sin-lambda = sl; cos-lambda = cl; ratio = ratio; offset = t; g = g; h = h; g-dot = gd; h-dot = hd }
+-- the sums over the degrees 1 to n, from the lanes
+unfoldable pub laneTotal : Input Float → ℕ → Xyz
+laneTotal i zero = record { x = lit 0; y = lit 0; z = lit 0 }
+laneTotal i (suc n) = addDegree (laneTotal i n) (suc n) (power rounded i n) (laneSums i (suc n))
 
 -- the three sums of the general path, over the degrees 1 to N
-abbrev pub general : Input → ℕ → Xyz
+abbrev pub general : Input Float → ℕ → Xyz
 general i N = record { x = x-sum rounded i N; y = y-sum rounded i N; z = z-sum rounded i N }
 
 -- ---- what the loops keep
@@ -172,10 +172,6 @@ general i N = record { x = x-sum rounded i N; y = y-sum rounded i N; z = z-sum r
 pub record Sized (p : List (List Float)) : Type 0 where
   pub rows : length p ≡ 3
   pub cells : (k : ℕ) → k < 3 → length (getD p k []) ≡ M-LEN
-
--- row k holds degree n at the orders below j and below M
-abbrev pub Holds : Input → ℕ → List (List Float) → List (List Float) → ℕ → ℕ → ℕ → Type 0
-Holds i M p d k n j = (m : ℕ) → m < M → m < j → cells p d k m ≡ legendre rounded i n m
 
 -- three rows, all different
 pub record Apart (q : Places) : Type 0 where
@@ -186,17 +182,8 @@ pub record Apart (q : Places) : Type 0 where
   pub prev2-cur : q .prev2 ≡ q .cur → ⊥
   pub prev1-prev2 : q .prev1 ≡ q .prev2 → ⊥
 
--- in degree n, the orders below j done; orders from M on are never read
-pub record Rows (i : Input) (M n j : ℕ) (p d : List (List Float)) (q : Places) : Type 0 where
-  pub p-sized : Sized p
-  pub d-sized : Sized d
-  pub apart : Apart q
-  pub prev1 : Holds i M p d (q .prev1) (n - 1) n
-  pub prev2 : Holds i M p d (q .prev2) (n - 2) (n - 1)
-  pub cur : Holds i M p d (q .cur) n j
-
 -- the lanes in degree n, those below j done; the others hold what they did three degrees before
-pub record Lanes (i : Input) (n j : ℕ) (p d : List (List Float)) (q : Places) : Type 0 where
+pub record Lanes (i : Input Float) (n j : ℕ) (p d : List (List Float)) (q : Places) : Type 0 where
   pub p-sized : Sized p
   pub d-sized : Sized d
   pub apart : Apart q
@@ -206,27 +193,27 @@ pub record Lanes (i : Input) (n j : ℕ) (p d : List (List Float)) (q : Places) 
   pub rest : (m : ℕ) → m < N-MAX → j ≤ m → cells p d (q .cur) m ≡ lane i (n - 3) m
 
 -- the same, and the terms of the orders below j in the rows t
-pub record Row (i : Input) (n j : ℕ) (p d : List (List Float)) (q : Places) (t : List (List Float)) : Type 0 where
+pub record Row (i : Input Float) (n j : ℕ) (p d : List (List Float)) (q : Places) (t : List (List Float)) : Type 0 where
   pub lanes : Lanes i n j p d q
   pub t-sized : Sized t
   pub terms-are : (m : ℕ) → m < j → m ≤ n → cellXyz t m ≡ laneTerms i n m
 
 -- the sums of degree n over its orders
-abbrev pub rowSums : Input → ℕ → Xyz
+abbrev pub rowSums : Input Float → ℕ → Xyz
 rowSums i n = record { x = x-row rounded i n; y = y-row rounded i n; z = z-row rounded i n }
 
 -- what the code reads at each order is what the sums read: the two tables, the coefficients at the date, the orders, the angles
-pub record Given (i : Input) (ks ss gt ht os sin cos : List Float) : Type 0 where
+pub record Given (i : Input Float) (ks ss gt ht os sin cos : List Float) : Type 0 where
   pub K : (n m : ℕ) → place n m < N-LEGENDRE → getD ks (place n m) nan ≡ i .K n m
   pub S : (n m : ℕ) → n < M-LEN → m ≤ n → getD ss (place n m) nan ≡ i .S n m
-  pub g : (n m : ℕ) → 0 < n → n < M-LEN → m ≤ n → getD gt (place n m - 1) nan ≡ g-at rounded i n m
-  pub h : (n m : ℕ) → 0 < n → n < M-LEN → m ≤ n → getD ht (place n m - 1) nan ≡ h-at rounded i n m
+  pub g : (n m : ℕ) → 0 < n → n < M-LEN → m ≤ n → getD gt (place n m - 1) nan ≡ i .g n m
+  pub h : (n m : ℕ) → 0 < n → n < M-LEN → m ≤ n → getD ht (place n m - 1) nan ≡ i .h n m
   pub order : (m : ℕ) → m < M-LEN → getD os m nan ≡ lit m
   pub sin-is : (m : ℕ) → m < M-LEN → getD sin m nan ≡ angle rounded (i .sin-lambda) (i .cos-lambda) m .fst
   pub cos-is : (m : ℕ) → m < M-LEN → getD cos m nan ≡ angle rounded (i .sin-lambda) (i .cos-lambda) m .snd
 
 -- the three lists of weights: before P and its derivative, before P in the derivative, before k
-pub record Weighed (i : Input) (cw sw kw : List Float) : Type 0 where
+pub record Weighed (i : Input Float) (cw sw kw : List Float) : Type 0 where
   pub cos-theta : (j : ℕ) → j < W-LEN → getD cw j nan ≡ cond (ltb j N-MAX) (i .cos-theta) (lit 1)
   pub sin-theta : (j : ℕ) → j < W-LEN → getD sw j nan ≡ cond (ltb j N-MAX) (i .sin-theta) (lit 0)
   pub k : (j : ℕ) → j < W-LEN → getD kw j nan ≡ cond (ltb j N-MAX) (lit 1) (lit 0)
@@ -238,34 +225,45 @@ withinOf g h g-dot h-dot =
     all-between (neg main-cap) main-cap g && all-between (neg main-cap) main-cap h && all-between (neg rate-cap) rate-cap g-dot && all-between (neg rate-cap) rate-cap h-dot
 
 -- ---- near the pole
-abbrev pub sinCos : Pair Float → SinCos
-sinCos a = record { sin = a .fst; cos = a .snd }
-
-abbrev pub pairOf : SinCos → Pair Float
-pairOf u = pair (u .sin) (u .cos)
-
 -- Q of degree n, from those of degrees n - 1 and n - 2
 unfoldable pub nextQ : ℕ → Float → Float → Float → Float → Float
 nextQ n k c q1 q2 = cond (eqb n 1) (ofBits binary32 0x3f800000) (next-quotient rounded c k q1 q2)
 
--- the sums of a degree with one order more; order 1 has the degree's east part
-unfoldable pub addPoleOrder : Xyz → ℕ → Float → PDp → Float → Float → SinCos → Float → Float → Xyz
-addPoleOrder a m s r g h u power q =
+-- P and Q of degree n, from those of degrees n - 1 and n - 2; k0 and k1 are the K of its orders
+unfoldable pub nextRow : ℕ → Float → Float → Float → Float → PoleRow → PoleRow → PoleRow
+nextRow n k0 k1 c s a b =
     record {
-      x = rounded .plus (a .x) (rounded .times (gc rounded g h (pairOf u)) (dps rounded s (qp r)));
-      y = cond (eqb m 1) (rounded .plus (a .y) (pole-east rounded power (gs rounded g h (pairOf u)) q s)) (a .y);
-      z = rounded .plus (a .z) (rounded .times (gc rounded g h (pairOf u)) (ps rounded s (qp r)));
+      r0 = pdp (step rounded c s k0 n 0 (qp (a .r0)) (qp (a .r0)) (qp (b .r0)));
+      r1 = pdp (step rounded c s k1 n 1 (qp (a .r0)) (qp (a .r1)) (qp (b .r1)));
+      q = nextQ n k1 c (a .q) (b .q);
     }
 
--- the sums with one degree more; the east sum is in a already
+-- the coefficients at place k of the lists, at the date
+abbrev pub ghAt : List Float → List Float → List Float → List Float → Float → ℕ → Gh
+ghAt g h g-dot h-dot t k = record { g = coefficient rounded (getD g k nan) (getD g-dot k nan) t; h = coefficient rounded (getD h k nan) (getD h-dot k nan) t }
+
+-- a degree's parts, of the terms of order 0, whose sine is 0 and cosine 1, and of those of order 1; east of order 1 by Q
+unfoldable pub poleParts : PoleRow → Gh → Gh → Float → Float → SinCos → Float → Xyz
+poleParts r w0 w1 s0 s1 u power =
+    let nil = ofBits binary32 0 in
+    let one = ofBits binary32 0x3f800000 in
+    let v0 = termOf nil s0 (r .r0) (w0 .g) (w0 .h) nil one in
+    let v1 = termOf one s1 (r .r1) (w1 .g) (w1 .h) (u .sin) (u .cos) in
+    record {
+      x = rounded .plus (rounded .plus nil (v0 .x)) (v1 .x);
+      y = pole-east rounded power (gs rounded (w1 .g) (w1 .h) (pair (u .sin) (u .cos))) (r .q) s1;
+      z = rounded .plus (rounded .plus nil (v0 .z)) (v1 .z);
+    }
+
+-- the sums with one degree more
 unfoldable pub addPoleDegree : Xyz → ℕ → Float → Xyz → Xyz
 addPoleDegree t n power a =
     record {
       x = rounded .plus (t .x) (rounded .times power (a .x));
-      y = a .y;
-      z = rounded .plus (t .z) (down rounded n power (a .z));
+      y = rounded .plus (t .y) (a .y);
+      z = rounded .plus (t .z) (downward rounded n power (a .z));
     }
 
 -- the three sums of the near-pole path, over the degrees 1 to N
-abbrev pub nearPole : Input → ℕ → Xyz
+abbrev pub nearPole : Input Float → ℕ → Xyz
 nearPole i N = record { x = pole-x rounded i POLE-ORDERS N; y = pole-y rounded i N; z = pole-z rounded i POLE-ORDERS N }

@@ -1,12 +1,3 @@
--- Definitions: Arithmetic, Recurrence, Sum, and `Same` of Same. The rest are laws.
-pub mod Arithmetic
-pub mod Recurrence
+-- Definitions only: Sum is the entry; Code says what each function computes, and the entry's contract does not cite it. The laws stand in proofs/.
 pub mod Sum
-pub mod Keeps
-pub mod Terms
-pub mod Sums
-pub mod Related
-pub mod Same
-pub mod Majorant
-pub mod Demand
 pub mod Code

@@ -1,23 +1,22 @@
 -- The entry Sum (document 01, "What is carried over"): what it is lent, its refusals in their order, its answer, and the exact sum that it is near.
 -- Definitions only.
-use mathlib.Core.Bool.{Bool, false, _&&_, cond}
+use mathlib.Core.Bool.{Bool, _&&_}
 use mathlib.Core.List.{List, [], _∷_}
-use Prim.Native.Nat.{ℕ, suc, _-_}
-use lib.Dec.{eqb}
-use lib.IntN.{pos}
-use lib.ListN.{length, getD}
-use lib.Ieee.{Float, fin, binary32, ofBits, lt}
-use Rattle.exact.specs.Tests.{abs, between, circle, capped}
+use Prim.Native.Nat.{ℕ, suc}
+use lib.Dec.{T, eqb}
+use lib.ListN.{length}
+use lib.Ieee.{Float, binary32, ofBits}
+use Rattle.exact.specs.Tests.{all-capped, between, circle, capped}
 use Rattle.exact.specs.Within.{Within}
 use Rattle.refusals.specs.Paper.{Paper, answered, paper, unless}
 use Rattle.refusals.specs.declared.Refusal.the-variants.{Longitude, Length, Coefficient, Colatitude, Ratio, Offset}
-use Rattle.tables.specs.Degree.{N-MAX, N-COEFF, place}
-use Rattle.tables.specs.Tables.{schmidtAt, kAt}
+use Rattle.tables.specs.Degree.{N-MAX, N-COEFF}
+use Rattle.sums.specs.Arithmetic.{Arithmetic, rounded, unrounded, sizes}
+use Rattle.sums.specs.Recurrence.{Input}
+use Rattle.sums.specs.Paths.{dated, path-x, path-y, path-z, placed}
 use Rattle.synthesis.specs.declared.Xyz.{Xyz}
 use Rattle.synthesis.specs.declared.SumAnswer.{SumAnswer}
 use Rattle.synthesis.specs.declared.SumAnswer.the-variants as Answer
-use Rattle.synthesis.specs.Arithmetic.{Arithmetic, rounded, unrounded, sizes}
-use Rattle.synthesis.specs.Recurrence.{Input, x-sum, y-sum, z-sum, pole-x, pole-y, pole-z}
 
 -- ---- what is lent
 pub record Lent : Type 0 where
@@ -32,53 +31,24 @@ pub record Lent : Type 0 where
   pub g-dot : List Float
   pub h-dot : List Float
 
-abbrev pub nought : Float
-nought = fin false 0 (pos 0)
+-- the same, from its parts
+abbrev pub lent : Float → Float → Float → Float → Float → Float → List Float → List Float → List Float → List Float → Lent
+lent c s sl cl ratio t g h gd hd = record { cos-theta = c; sin-theta = s; sin-lambda = sl; cos-lambda = cl; ratio = ratio; offset = t; g = g; h = h; g-dot = gd; h-dot = hd }
 
--- the entry of degree n and order m (coeff_index)
-abbrev pub at : List Float → ℕ → ℕ → Float
-at l n m = getD l (place n m - 1) nought
+-- as the sums read it: each coefficient is main + offset·rate
+unfoldable pub inputs : {A : Type 0} → Arithmetic A → Lent → Input A
+inputs o a = placed (a .cos-theta) (a .sin-theta) (a .sin-lambda) (a .cos-lambda) (a .ratio) (dated o (a .g) (a .g-dot) (a .offset)) (dated o (a .h) (a .h-dot) (a .offset))
 
--- the same, as the sums read it
-unfoldable pub inputs : Lent → Input
-inputs a =
-    record {
-      cos-theta = a .cos-theta;
-      sin-theta = a .sin-theta;
-      sin-lambda = a .sin-lambda;
-      cos-lambda = a .cos-lambda;
-      ratio = a .ratio;
-      offset = a .offset;
-      g = at (a .g);
-      h = at (a .h);
-      g-dot = at (a .g-dot);
-      h-dot = at (a .h-dot);
-      S = λ n m. schmidtAt (place n m);
-      K = λ n m. kAt (place n m);
-    }
-
--- ---- the two paths
--- strictly below the f32 1e-3 in size (NEAR_POLE_SIN_THETA_MIN)
-unfoldable pub small-sine : Float → Bool
-small-sine s = lt (abs s) (ofBits binary32 0x3a83126f)
-
--- the orders that the near-pole path runs over: 0 and 1
-abbrev pub POLE-ORDERS : ℕ
-POLE-ORDERS = 2
-
-abbrev pub near-pole : Lent → Bool
-near-pole a = small-sine (a .sin-theta)
-
--- X', Y and Z' over any arithmetic; on the general path Y' is divided by sin θ
+-- X', Y and Z' over any arithmetic
 module _ {A : Type 0} (o : Arithmetic A) (a : Lent) where
   abbrev pub sum-x : A
-  sum-x = cond (near-pole a) (pole-x o (inputs a) POLE-ORDERS N-MAX) (x-sum o (inputs a) N-MAX)
+  sum-x = path-x o (inputs o a) N-MAX
 
   abbrev pub sum-y : A
-  sum-y = cond (near-pole a) (pole-y o (inputs a) N-MAX) (o .over (y-sum o (inputs a) N-MAX) (a .sin-theta))
+  sum-y = path-y o (inputs o a) N-MAX
 
   abbrev pub sum-z : A
-  sum-z = cond (near-pole a) (pole-z o (inputs a) POLE-ORDERS N-MAX) (z-sum o (inputs a) N-MAX)
+  sum-z = path-z o (inputs o a) N-MAX
 
 -- ---- the checks (document 01, "Refusal numbers")
 -- 0.875 to 1.015625
@@ -120,7 +90,7 @@ listsSay g h g-dot h-dot p =
     (entriesSay main-cap 0 0 g (entriesSay main-cap 1 0 h (entriesSay rate-cap 2 0 g-dot (entriesSay rate-cap 3 0 h-dot p))))
 
 -- ---- the answer
-abbrev pub valueOf : Lent → Xyz
+unfoldable pub valueOf : Lent → Xyz
 valueOf a = record { x = sum-x rounded a; y = sum-y rounded a; z = sum-z rounded a }
 
 -- Sum, by document 01's order: 9, 3, 10, 11, 6, 7, then the answer
@@ -134,8 +104,19 @@ abbrev pub said : SumAnswer → Paper Xyz
 said (Answer.Sum v) = answered v
 said (Answer.Refused k) = paper k
 
+-- ---- what passed the checks of the numbers and of the entries
+pub record SumAccepted (a : Lent) : Type 0 where
+  pub colatitude : T (circle (a .sin-theta) (a .cos-theta))
+  pub longitude : T (circle (a .sin-lambda) (a .cos-lambda))
+  pub ratio : T (ratio-ok (a .ratio))
+  pub offset : T (offset-ok (a .offset))
+  pub g : T (all-capped main-cap (a .g))
+  pub h : T (all-capped main-cap (a .h))
+  pub g-dot : T (all-capped rate-cap (a .g-dot))
+  pub h-dot : T (all-capped rate-cap (a .h-dot))
+
 -- demand 3: each component within the promised distance of the exact sum, with the sizes as its majorant
-pub record Close (a : Lent) (v : Xyz) : Type 0 where
+pub record SumClose (a : Lent) (v : Xyz) : Type 0 where
   pub x : Within (v .x) (sum-x unrounded a) (sum-x sizes a)
   pub y : Within (v .y) (sum-y unrounded a) (sum-y sizes a)
   pub z : Within (v .z) (sum-z unrounded a) (sum-z sizes a)

@@ -9,7 +9,7 @@ ghost use lib.Ieee.{neg};
 ghost use Rattle.exact.specs.Tests.{all-between};
 ghost use Rattle.refusals.specs.Paper.{Paper, told};
 ghost use Rattle.synthesis.specs.declared.Xyz.{Xyz};
-ghost use Rattle.synthesis.specs.Sum.{numbersSay, entriesSay, long, listsSay};
+ghost use Rattle.synthesis.specs.Sum.{entriesSay, listsSay, long, numbersSay};
 ghost use Rattle.synthesis.specs.Code.{withinOf};
 
 // Caps on an entry's size: nT for the coefficients, nT a year for the rates.

@@ -2,8 +2,11 @@
 use crate::M_LEN;
 use crate::N_COEFF;
 use crate::Xyz;
+use crate::angles::SinCos;
 use crate::angles::sin_cos_m_lambda;
+use crate::date::Gh;
 use crate::date::at_date;
+use crate::lanes::Starts;
 use crate::lanes::W_LEN;
 use crate::lanes::below_then;
 use crate::lanes::start_values;
@@ -19,11 +22,12 @@ use tables::N_MAX;
 ghost use mathlib.Core.Path.{_≡_};
 ghost use Prim.Native.Nat.{_+_, _*_, _/_, _<_, _≤_};
 ghost use lib.ListN.{length};
+ghost use lib.Ieee.{Float};
 ghost use Rattle.tables.specs.Degree.{N-MAX, M-LEN, N-COEFF, N-LEGENDRE};
-ghost use Rattle.synthesis.specs.Sum.{inputs};
-ghost use Rattle.synthesis.specs.Demand.{Accepted};
-ghost use Rattle.synthesis.specs.Recurrence.{Input, lit};
-ghost use Rattle.synthesis.specs.Code.{Given, Lanes, Row, Weighed, addDegree, cellXyz, first, general, laneSums, lent, pdp, put4Terms, putTerm, start, termAt, totals};
+ghost use Rattle.sums.specs.Arithmetic.{rounded};
+ghost use Rattle.synthesis.specs.Sum.{SumAccepted, inputs, lent};
+ghost use Rattle.sums.specs.Recurrence.{Input, lit};
+ghost use Rattle.synthesis.specs.Code.{Given, Lanes, Row, Weighed, addDegree, cellXyz, first, general, laneSums, laneTotal, pdp, put2Terms, put4Terms, putTerm, start, startsOf, termAt, termOf, totals};
 
 // The orders as f32. Read from a table, taken once a call: a conversion does not run by lanes.
 const ORDERS: [f32; M_LEN] = [
@@ -48,7 +52,22 @@ pub fn orders() -> [f32; M_LEN]
     ORDERS
 }
 
-// The terms of order m, at place i of the tables, of the three sums of its degree.
+// An order's terms of the three sums of its degree, s its Schmidt factor and r its P.
+pub fn term_of(order: f32, s: f32, r: PDp, w: Gh, u: SinCos) -> Xyz
+    ensures { λ v. ⌜ v ≡ termOf order s r (w .g) (w .h) (u .sin) (u .cos) ⌝ }
+{
+    let psn = s * r.p;
+    let dpsn = -s * r.dp;
+    let g_c_h_s = w.g * u.cos + w.h * u.sin;
+    let g_s_h_c = w.g * u.sin - w.h * u.cos;
+    Xyz {
+        x: g_c_h_s * dpsn,
+        y: order * g_s_h_c * psn,
+        z: g_c_h_s * psn,
+    }
+}
+
+// The same of order m, at place i of the tables.
 pub fn term(
     m: usize,
     i: usize,
@@ -63,18 +82,15 @@ pub fn term(
     requires { ⌜ (m < M-LEN) × (0 < i) × (i < N-LEGENDRE) ⌝ }
     ensures { λ v. ⌜ v ≡ termAt m i r (now (ss .entry)) (now (gt .entry)) (now (ht .entry)) (now (os .entry)) (now (sin .entry)) (now (cos .entry)) ⌝ }
 {
-    let s = ss[i];
-    let g = gt[i - 1];
-    let h = ht[i - 1];
-    let psn = s * r.p;
-    let dpsn = -s * r.dp;
-    let g_c_h_s = g * cos[m] + h * sin[m];
-    let g_s_h_c = g * sin[m] - h * cos[m];
-    Xyz {
-        x: g_c_h_s * dpsn,
-        y: os[m] * g_s_h_c * psn,
-        z: g_c_h_s * psn,
-    }
+    let w = Gh {
+        g: gt[i - 1],
+        h: ht[i - 1],
+    };
+    let u = SinCos {
+        sin: sin[m],
+        cos: cos[m],
+    };
+    term_of(os[m], ss[i], r, w, u)
 }
 
 // The terms of order m, stored: x, y and z in a row each.
@@ -90,8 +106,31 @@ pub fn put_term(m: usize, v: Xyz, t: &mut [[f32; M_LEN]; 3])
     t[2][m] = z;
 }
 
-// The terms of the orders m to m + 3. They go through the rows t, since only stores run by lanes:
+// The terms of the orders m and m + 1. They go through the rows t, since only stores run by lanes:
 // the sums add them one after another.
+pub fn put_two_terms(
+    m: usize,
+    i: usize,
+    r0: PDp,
+    r1: PDp,
+    ss: &[f32; N_LEGENDRE],
+    gt: &[f32; N_COEFF],
+    ht: &[f32; N_COEFF],
+    os: &[f32; M_LEN],
+    sin: &[f32; M_LEN],
+    cos: &[f32; M_LEN],
+    t: &mut [[f32; M_LEN]; 3],
+)
+    requires { ⌜ (m + 1 < M-LEN) × (0 < i) × (i + 1 < N-LEGENDRE) ⌝ }
+    ensures { λ _. ⌜ now (t .exit) ≡ put2Terms (now (t .entry)) m i r0 r1 (now (ss .entry)) (now (gt .entry)) (now (ht .entry)) (now (os .entry)) (now (sin .entry)) (now (cos .entry)) ⌝ }
+{
+    let v0 = term(m, i, r0, ss, gt, ht, os, sin, cos);
+    let v1 = term(m + 1, i + 1, r1, ss, gt, ht, os, sin, cos);
+    put_term(m, v0, t);
+    put_term(m + 1, v1, t);
+}
+
+// The terms of the orders m to m + 3.
 pub fn put_four_terms(
     m: usize,
     i: usize,
@@ -107,14 +146,8 @@ pub fn put_four_terms(
     requires { ⌜ (m + 3 < M-LEN) × (0 < i) × (i + 3 < N-LEGENDRE) ⌝ }
     ensures { λ _. ⌜ now (t .exit) ≡ put4Terms (now (t .entry)) m i r (now (ss .entry)) (now (gt .entry)) (now (ht .entry)) (now (os .entry)) (now (sin .entry)) (now (cos .entry)) ⌝ }
 {
-    let v0 = term(m, i, r.r0, ss, gt, ht, os, sin, cos);
-    let v1 = term(m + 1, i + 1, r.r1, ss, gt, ht, os, sin, cos);
-    let v2 = term(m + 2, i + 2, r.r2, ss, gt, ht, os, sin, cos);
-    let v3 = term(m + 3, i + 3, r.r3, ss, gt, ht, os, sin, cos);
-    put_term(m, v0, t);
-    put_term(m + 1, v1, t);
-    put_term(m + 2, v2, t);
-    put_term(m + 3, v3, t);
+    put_two_terms(m, i, r.r0, r.r1, ss, gt, ht, os, sin, cos, t);
+    put_two_terms(m + 2, i + 2, r.r2, r.r3, ss, gt, ht, os, sin, cos, t);
 }
 
 // The lanes m to m + 3 in degree n. What stands in a lane above the degree is not added up.
@@ -137,7 +170,7 @@ pub fn four_orders(
     t: &mut [[f32; M_LEN]; 3],
 )
     requires { ⌜ (0 < n) × (n < M-LEN) × (m ≤ n) × (m + 3 < N-MAX) × (4 * (m / 4) ≡ m) × (q .prev1 < 3) × (q .prev2 < 3) × (q .cur < 3) ⌝ }
-    ensures { λ _. ⌜ ((i : Input) → Given i (now (ks .entry)) (now (ss .entry)) (now (gt .entry)) (now (ht .entry)) (now (os .entry)) (now (sin .entry)) (now (cos .entry))
+    ensures { λ _. ⌜ ((i : Input Float) → Given i (now (ks .entry)) (now (ss .entry)) (now (gt .entry)) (now (ht .entry)) (now (os .entry)) (now (sin .entry)) (now (cos .entry))
         → Weighed i (now (cw .entry)) (now (sw .entry)) (now (kw .entry))
         → Row i n m (now (p .entry)) (now (dp .entry)) q (now (t .entry)) → Row i n (m + 4) (now (p .exit)) (now (dp .exit)) q (now (t .exit))) ⌝ }
 {
@@ -151,7 +184,7 @@ pub fn four_orders(
 // The terms of the orders below `count`, added up in that order.
 pub fn add_terms(count: usize, t: &[[f32; M_LEN]; 3]) -> Xyz
     requires { ⌜ count ≤ M-LEN ⌝ }
-    ensures { λ r. ⌜ ((i : Input) → r ≡ totals i (cellXyz (now (t .entry))) count) ⌝ }
+    ensures { λ r. ⌜ ((i : Input Float) → r ≡ totals i (cellXyz (now (t .entry))) count) ⌝ }
 {
     let mut x = 0.0f32;
     let mut y = 0.0f32;
@@ -184,7 +217,7 @@ pub fn degree(
     last: PDp,
 ) -> Xyz
     requires { ⌜ (0 < n) × (n < M-LEN) × (q .prev1 < 3) × (q .prev2 < 3) × (q .cur < 3) ⌝ }
-    ensures { λ r. ⌜ ((i : Input) → Given i (now (ks .entry)) (now (ss .entry)) (now (gt .entry)) (now (ht .entry)) (now (os .entry)) (now (sin .entry)) (now (cos .entry))
+    ensures { λ r. ⌜ ((i : Input Float) → Given i (now (ks .entry)) (now (ss .entry)) (now (gt .entry)) (now (ht .entry)) (now (os .entry)) (now (sin .entry)) (now (cos .entry))
         → Weighed i (now (cw .entry)) (now (sw .entry)) (now (kw .entry)) → last ≡ pdp (start i N-MAX)
         → Lanes i n 0 (now (p .entry)) (now (dp .entry)) q → (r ≡ laneSums i n) × Lanes i n N-MAX (now (p .exit)) (now (dp .exit)) q) ⌝ }
 {
@@ -233,34 +266,25 @@ pub fn add_degree(t: Xyz, n: usize, a_over_r_n2: f32, a: Xyz) -> Xyz
     }
 }
 
-pub fn synthesize_xyz_prime(
-    cos_theta: f32,
-    sin_theta: f32,
-    sin_lambda: f32,
-    cos_lambda: f32,
+// The degrees one after another: three rows for P and three for its derivative, whose roles rotate.
+pub fn degrees(
     ratio: f32,
-    g: &[f32],
-    h: &[f32],
-    g_dot: &[f32],
-    h_dot: &[f32],
-    time_delta: f32,
+    ks: &[f32; N_LEGENDRE],
+    cw: &[f32; W_LEN],
+    sw: &[f32; W_LEN],
+    kw: &[f32; W_LEN],
+    ss: &[f32; N_LEGENDRE],
+    gt: &[f32; N_COEFF],
+    ht: &[f32; N_COEFF],
+    os: &[f32; M_LEN],
+    sin: &[f32; M_LEN],
+    cos: &[f32; M_LEN],
+    d: Starts,
 ) -> Xyz
-    requires { ⌜ (length (now g) ≡ N-COEFF) × (length (now h) ≡ N-COEFF) × (length (now «g_dot») ≡ N-COEFF) × (length (now «h_dot») ≡ N-COEFF) ⌝ }
-    requires { ⌜ Accepted (lent «cos_theta» «sin_theta» «sin_lambda» «cos_lambda» ratio «time_delta» (now g) (now h) (now «g_dot») (now «h_dot»)) ⌝ }
-    ensures { λ r. ⌜ r ≡ general (inputs (lent «cos_theta» «sin_theta» «sin_lambda» «cos_lambda» ratio «time_delta» (now (g .entry)) (now (h .entry)) (now («g_dot» .entry)) (now («h_dot» .entry)))) N-MAX ⌝ }
+    ensures { λ r. ⌜ ((i : Input Float) → ratio ≡ i .ratio → d ≡ startsOf (i .cos-theta) (i .sin-theta)
+        → Given i (now (ks .entry)) (now (ss .entry)) (now (gt .entry)) (now (ht .entry)) (now (os .entry)) (now (sin .entry)) (now (cos .entry))
+        → Weighed i (now (cw .entry)) (now (sw .entry)) (now (kw .entry)) → r ≡ laneTotal i N-MAX) ⌝ }
 {
-    let a = sin_cos_m_lambda(sin_lambda, cos_lambda);
-    let ks = tables::k_table();
-    let ss = tables::schmidt_table();
-    let gt = at_date(g, g_dot, time_delta);
-    let ht = at_date(h, h_dot, time_delta);
-    let os = orders();
-    let sin = a.sin;
-    let cos = a.cos;
-    let cw = below_then(cos_theta, 1.0);
-    let sw = below_then(sin_theta, 0.0);
-    let kw = below_then(1.0, 0.0);
-    let d = start_values(cos_theta, sin_theta);
     let last = PDp {
         p: d.p[N_MAX],
         dp: d.dp[N_MAX],
@@ -281,16 +305,16 @@ pub fn synthesize_xyz_prime(
     for n in 1..M_LEN {
         let acc = degree(
             n,
-            &ks,
-            &cw,
-            &sw,
-            &kw,
-            &ss,
-            &gt,
-            &ht,
-            &os,
-            &sin,
-            &cos,
+            ks,
+            cw,
+            sw,
+            kw,
+            ss,
+            gt,
+            ht,
+            os,
+            sin,
+            cos,
             &mut p,
             &mut dp,
             q,
@@ -301,4 +325,53 @@ pub fn synthesize_xyz_prime(
         q = rotate_row_indices(q);
     }
     tot
+}
+
+// The same, with what the lanes need besides.
+pub fn all_degrees(
+    cos_theta: f32,
+    sin_theta: f32,
+    ratio: f32,
+    ks: &[f32; N_LEGENDRE],
+    ss: &[f32; N_LEGENDRE],
+    gt: &[f32; N_COEFF],
+    ht: &[f32; N_COEFF],
+    sin: &[f32; M_LEN],
+    cos: &[f32; M_LEN],
+) -> Xyz
+    ensures { λ r. ⌜ ((i : Input Float) → «cos_theta» ≡ i .cos-theta → «sin_theta» ≡ i .sin-theta → ratio ≡ i .ratio
+        → Given i (now (ks .entry)) (now (ss .entry)) (now (gt .entry)) (now (ht .entry)) (first lit M-LEN) (now (sin .entry)) (now (cos .entry)) → r ≡ laneTotal i N-MAX) ⌝ }
+{
+    let os = orders();
+    let cw = below_then(cos_theta, 1.0);
+    let sw = below_then(sin_theta, 0.0);
+    let kw = below_then(1.0, 0.0);
+    let d = start_values(cos_theta, sin_theta);
+    degrees(ratio, ks, &cw, &sw, &kw, ss, gt, ht, &os, sin, cos, d)
+}
+
+pub fn synthesize_xyz_prime(
+    cos_theta: f32,
+    sin_theta: f32,
+    sin_lambda: f32,
+    cos_lambda: f32,
+    ratio: f32,
+    g: &[f32],
+    h: &[f32],
+    g_dot: &[f32],
+    h_dot: &[f32],
+    time_delta: f32,
+) -> Xyz
+    requires { ⌜ (length (now g) ≡ N-COEFF) × (length (now h) ≡ N-COEFF) × (length (now «g_dot») ≡ N-COEFF) × (length (now «h_dot») ≡ N-COEFF) ⌝ }
+    requires { ⌜ SumAccepted (lent «cos_theta» «sin_theta» «sin_lambda» «cos_lambda» ratio «time_delta» (now g) (now h) (now «g_dot») (now «h_dot»)) ⌝ }
+    ensures { λ r. ⌜ r ≡ general (inputs rounded (lent «cos_theta» «sin_theta» «sin_lambda» «cos_lambda» ratio «time_delta» (now (g .entry)) (now (h .entry)) (now («g_dot» .entry)) (now («h_dot» .entry)))) N-MAX ⌝ }
+{
+    let a = sin_cos_m_lambda(sin_lambda, cos_lambda);
+    let ks = tables::k_table();
+    let ss = tables::schmidt_table();
+    let gt = at_date(g, g_dot, time_delta);
+    let ht = at_date(h, h_dot, time_delta);
+    let sin = a.sin;
+    let cos = a.cos;
+    all_degrees(cos_theta, sin_theta, ratio, &ks, &ss, &gt, &ht, &sin, &cos)
 }

@@ -5,8 +5,7 @@ use paths::synthesize_geocentric_xyz;
 use refusals::Refusal;
 use refusals::Verdict;
 ghost use mathlib.Core.Path.{_≡_};
-ghost use Rattle.synthesis.specs.Sum.{sumSays, said, Close};
-ghost use Rattle.synthesis.specs.Code.{lent};
+ghost use Rattle.synthesis.specs.Sum.{SumClose, lent, said, sumSays};
 
 mod angles;
 mod checks;
@@ -59,7 +58,7 @@ pub fn sum(
     h_dot: &[f32],
 ) -> SumAnswer
     ensures answer { λ r. ⌜ said r ≡ sumSays (lent (colatitude .cos) (colatitude .sin) (longitude .sin) (longitude .cos) ratio offset (now (g .entry)) (now (h .entry)) (now («g_dot» .entry)) (now («h_dot» .entry))) ⌝ }
-    ensures distance { λ r. ⌜ ((v : Xyz) → r ≡ SumAnswer.Sum v → Close (lent (colatitude .cos) (colatitude .sin) (longitude .sin) (longitude .cos) ratio offset (now (g .entry)) (now (h .entry)) (now («g_dot» .entry)) (now («h_dot» .entry))) v) ⌝ }
+    ensures distance { λ r. ⌜ ((v : Xyz) → r ≡ SumAnswer.Sum v → SumClose (lent (colatitude .cos) (colatitude .sin) (longitude .sin) (longitude .cos) ratio offset (now (g .entry)) (now (h .entry)) (now («g_dot» .entry)) (now («h_dot» .entry))) v) ⌝ }
     ensures kept { λ _. ⌜ (now (g .exit) ≡ now (g .entry)) × (now (h .exit) ≡ now (h .entry)) × (now («g_dot» .exit) ≡ now («g_dot» .entry)) × (now («h_dot» .exit) ≡ now («h_dot» .entry)) ⌝ }
 {
     if let Verdict::Refused(k) = check_numbers(colatitude, longitude, ratio, offset) {

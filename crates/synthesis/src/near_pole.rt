@@ -3,20 +3,28 @@
 use crate::M_LEN;
 use crate::Xyz;
 use crate::angles::SinCos;
-use crate::angles::pole_sin_cos;
-use crate::date::coeff_at_t;
+use crate::date::Gh;
+use crate::date::coeffs_at;
+use crate::general::term_of;
 use crate::rows::PDp;
-use crate::rows::Places;
-use crate::rows::coeff_index;
 use crate::rows::gauss_norm_p_dp;
 use crate::rows::legendre_index;
-use crate::rows::rotate_row_indices;
+use tables::N_LEGENDRE;
 ghost use mathlib.Core.Path.{_≡_};
-ghost use Prim.Native.Nat.{_+_, _<_};
-ghost use lib.ListN.{length};
-ghost use Rattle.tables.specs.Degree.{N-MAX, M-LEN, N-COEFF};
-ghost use Rattle.synthesis.specs.Sum.{inputs};
-ghost use Rattle.synthesis.specs.Code.{lent, nextQ, addPoleOrder, addPoleDegree, nearPole};
+ghost use Prim.Native.Nat.{_+_, _-_, _<_};
+ghost use lib.ListN.{length, getD};
+ghost use lib.Ieee.{nan};
+ghost use Rattle.tables.specs.Degree.{N-MAX, M-LEN, N-COEFF, N-LEGENDRE};
+ghost use Rattle.sums.specs.Arithmetic.{rounded};
+ghost use Rattle.synthesis.specs.Sum.{inputs, lent};
+ghost use Rattle.synthesis.specs.Code.{addPoleDegree, ghAt, nearPole, nextQ, nextRow, poleParts};
+
+// What a degree hands on: P of its orders 0 and 1, and Q.
+pub struct PoleRow {
+    pub r0: PDp,
+    pub r1: PDp,
+    pub q: f32,
+}
 
 // Q of degree n, from those of the two degrees before.
 pub fn next_q(n: usize, k: f32, cos_theta: f32, q_prev1: f32, q_prev2: f32) -> f32
@@ -29,46 +37,89 @@ pub fn next_q(n: usize, k: f32, cos_theta: f32, q_prev1: f32, q_prev2: f32) -> f
     }
 }
 
-// One order's part; order 1 carries the degree's east part.
-pub fn add_pole_order(
-    a: Xyz,
-    m: usize,
-    s: f32,
-    r: PDp,
-    g: f32,
-    h: f32,
+// Degree n, its order 0 at place i of the table, from the two degrees before.
+pub fn pole_row(
+    n: usize,
+    i: usize,
+    ks: &[f32; N_LEGENDRE],
+    cos_theta: f32,
+    sin_theta: f32,
+    prev1: PoleRow,
+    prev2: PoleRow,
+) -> PoleRow
+    requires { ⌜ (0 < n) × (i + 1 < N-LEGENDRE) ⌝ }
+    ensures { λ r. ⌜ r ≡ nextRow n (getD (now (ks .entry)) i nan) (getD (now (ks .entry)) (i + 1) nan) «cos_theta» «sin_theta» prev1 prev2 ⌝ }
+{
+    let k = ks[i + 1];
+    let r0 = gauss_norm_p_dp(
+        n,
+        0,
+        ks[i],
+        cos_theta,
+        sin_theta,
+        prev1.r0,
+        prev1.r0,
+        prev2.r0,
+    );
+    let r1 = gauss_norm_p_dp(n, 1, k, cos_theta, sin_theta, prev1.r0, prev1.r1, prev2.r1);
+    let q = next_q(n, k, cos_theta, prev1.q, prev2.q);
+    PoleRow { r0, r1, q }
+}
+
+// A degree's parts of the sums: north and down over its orders, east of order 1 by Q. w0 and s0 are
+// order 0's coefficients and Schmidt factor, w1 and s1 order 1's, u the longitude's pair.
+pub fn pole_parts(
+    row: PoleRow,
+    w0: Gh,
+    w1: Gh,
+    s0: f32,
+    s1: f32,
     u: SinCos,
     a_over_r_n2: f32,
-    q: f32,
 ) -> Xyz
-    ensures { λ o. ⌜ o ≡ addPoleOrder a m s r g h u «a_over_r_n2» q ⌝ }
+    ensures { λ r. ⌜ r ≡ poleParts row w0 w1 s0 s1 u «a_over_r_n2» ⌝ }
 {
-    let psn = s * r.p;
-    let dpsn = -s * r.dp;
-    let g_c_h_s = g * u.cos + h * u.sin;
-    if m == 1 {
-        Xyz {
-            x: a.x + g_c_h_s * dpsn,
-            y: a.y + a_over_r_n2 * (g * u.sin - h * u.cos) * q * s,
-            z: a.z + g_c_h_s * psn,
-        }
-    } else {
-        Xyz {
-            x: a.x + g_c_h_s * dpsn,
-            y: a.y,
-            z: a.z + g_c_h_s * psn,
-        }
+    let v0 = term_of(0.0, s0, row.r0, w0, SinCos { sin: 0.0, cos: 1.0 });
+    let v1 = term_of(1.0, s1, row.r1, w1, u);
+    Xyz {
+        x: 0.0 + v0.x + v1.x,
+        y: a_over_r_n2 * (w1.g * u.sin - w1.h * u.cos) * row.q * s1,
+        z: 0.0 + v0.z + v1.z,
     }
 }
 
-// One degree's part; the east part is in `a` already.
+// The same, its order 0 at place i of the tables.
+pub fn pole_degree(
+    i: usize,
+    row: PoleRow,
+    ss: &[f32; N_LEGENDRE],
+    g: &[f32],
+    h: &[f32],
+    g_dot: &[f32],
+    h_dot: &[f32],
+    time_delta: f32,
+    u: SinCos,
+    a_over_r_n2: f32,
+) -> Xyz
+    requires { ⌜ (length (now g) ≡ N-COEFF) × (length (now h) ≡ N-COEFF) × (length (now «g_dot») ≡ N-COEFF) × (length (now «h_dot») ≡ N-COEFF) ⌝ }
+    requires { ⌜ (0 < i) × (i + 1 < N-LEGENDRE) ⌝ }
+    ensures { λ r. ⌜ r ≡ poleParts row (ghAt (now (g .entry)) (now (h .entry)) (now («g_dot» .entry)) (now («h_dot» .entry)) «time_delta» (i - 1))
+        (ghAt (now (g .entry)) (now (h .entry)) (now («g_dot» .entry)) (now («h_dot» .entry)) «time_delta» i)
+        (getD (now (ss .entry)) i nan) (getD (now (ss .entry)) (i + 1) nan) u «a_over_r_n2» ⌝ }
+{
+    let w0 = coeffs_at(i - 1, g, h, g_dot, h_dot, time_delta);
+    let w1 = coeffs_at(i, g, h, g_dot, h_dot, time_delta);
+    pole_parts(row, w0, w1, ss[i], ss[i + 1], u, a_over_r_n2)
+}
+
+// The sums with degree n.
 pub fn add_pole_degree(t: Xyz, n: usize, a_over_r_n2: f32, a: Xyz) -> Xyz
     requires { ⌜ n < M-LEN ⌝ }
     ensures { λ o. ⌜ o ≡ addPoleDegree t n «a_over_r_n2» a ⌝ }
 {
     Xyz {
         x: t.x + a_over_r_n2 * a.x,
-        y: a.y,
+        y: t.y + a.y,
         z: t.z + (n as f32 + 1.0) * a_over_r_n2 * a.z,
     }
 }
@@ -86,17 +137,20 @@ pub fn synthesize_near_pole(
     time_delta: f32,
 ) -> Xyz
     requires { ⌜ (length (now g) ≡ N-COEFF) × (length (now h) ≡ N-COEFF) × (length (now «g_dot») ≡ N-COEFF) × (length (now «h_dot») ≡ N-COEFF) ⌝ }
-    ensures { λ r. ⌜ r ≡ nearPole (inputs (lent «cos_theta» «sin_theta» «sin_lambda» «cos_lambda» ratio «time_delta» (now (g .entry)) (now (h .entry)) (now («g_dot» .entry)) (now («h_dot» .entry)))) N-MAX ⌝ }
+    ensures { λ r. ⌜ r ≡ nearPole (inputs rounded (lent «cos_theta» «sin_theta» «sin_lambda» «cos_lambda» ratio «time_delta» (now (g .entry)) (now (h .entry)) (now («g_dot» .entry)) (now («h_dot» .entry)))) N-MAX ⌝ }
 {
     let ks = tables::k_table();
     let ss = tables::schmidt_table();
-    let mut p = [[0.0f32; M_LEN]; 3];
-    let mut dp = [[0.0f32; M_LEN]; 3];
-    p[1][0] = 1.0;
-    let mut k = Places {
-        prev2: 0,
-        prev1: 1,
-        cur: 2,
+    let none = PDp { p: 0.0, dp: 0.0 };
+    let mut prev2 = PoleRow {
+        r0: none,
+        r1: none,
+        q: 1.0,
+    };
+    let mut prev1 = PoleRow {
+        r0: PDp { p: 1.0, dp: 0.0 },
+        r1: none,
+        q: 1.0,
     };
     let mut a_over_r_n2 = ratio * ratio * ratio;
     let mut tot = Xyz {
@@ -104,31 +158,18 @@ pub fn synthesize_near_pole(
         y: 0.0,
         z: 0.0,
     };
-    let mut q_prev2 = 1.0f32;
-    let mut q_prev1 = 1.0f32;
     for n in 1..M_LEN {
-        let q = next_q(n, ks[legendre_index(n, 1)], cos_theta, q_prev1, q_prev2);
-        let y = tot.y;
-        let mut acc = Xyz { x: 0.0, y, z: 0.0 };
-        let cur = k.cur;
-        for m in 0..2usize {
-            let i = legendre_index(n, m);
-            let ix = coeff_index(n, m);
-            let r = gauss_norm_p_dp(n, m, ks[i], cos_theta, sin_theta, &p, &dp, k);
-            let u = r.p;
-            let v = r.dp;
-            p[cur][m] = u;
-            dp[cur][m] = v;
-            let gt = coeff_at_t(g[ix], g_dot[ix], time_delta);
-            let ht = coeff_at_t(h[ix], h_dot[ix], time_delta);
-            let w = pole_sin_cos(m, sin_lambda, cos_lambda);
-            acc = add_pole_order(acc, m, ss[i], r, gt, ht, w, a_over_r_n2, q);
-        }
-        tot = add_pole_degree(tot, n, a_over_r_n2, acc);
+        let i = legendre_index(n, 0);
+        let row = pole_row(n, i, &ks, cos_theta, sin_theta, prev1, prev2);
+        let u = SinCos {
+            sin: sin_lambda,
+            cos: cos_lambda,
+        };
+        let a = pole_degree(i, row, &ss, g, h, g_dot, h_dot, time_delta, u, a_over_r_n2);
+        tot = add_pole_degree(tot, n, a_over_r_n2, a);
         a_over_r_n2 = a_over_r_n2 * ratio;
-        q_prev2 = q_prev1;
-        q_prev1 = q;
-        k = rotate_row_indices(k);
+        prev2 = prev1;
+        prev1 = row;
     }
     tot
 }

@@ -4,8 +4,10 @@ use crate::lanes::W_LEN;
 use tables::N_LEGENDRE;
 ghost use mathlib.Core.Path.{_≡_};
 ghost use Prim.Native.Nat.{_+_, _*_, _-_, _/_, _<_, _≤_};
-ghost use Rattle.tables.specs.Degree.{M-LEN, N-COEFF, N-LEGENDRE, place};
-ghost use Rattle.synthesis.specs.Code.{W-LEN, cells, lowered, loweredAt, pdp, put, put4, rotated, stepped};
+ghost use Rattle.tables.specs.Degree.{M-LEN, N-LEGENDRE, place};
+ghost use Rattle.sums.specs.Arithmetic.{rounded};
+ghost use Rattle.sums.specs.Recurrence.{step};
+ghost use Rattle.synthesis.specs.Code.{W-LEN, cells, lowered, loweredAt, pdp, put, put4, qp, rotated};
 
 // P and its derivative with respect to the colatitude.
 pub struct PDp {
@@ -35,13 +37,6 @@ pub fn legendre_index(n: usize, m: usize) -> usize
     n * (n + 1) / 2 + m
 }
 
-pub fn coeff_index(n: usize, m: usize) -> usize
-    requires { ⌜ (0 < n) × (n < M-LEN) × (m ≤ n) ⌝ }
-    ensures { λ r. ⌜ (r ≡ place n m - 1) × (r < N-COEFF) ⌝ }
-{
-    n * (n + 1) / 2 + m - 1
-}
-
 pub fn rotate_row_indices(q: Places) -> Places
     ensures { λ r. ⌜ r ≡ rotated q ⌝ }
 {
@@ -52,28 +47,61 @@ pub fn rotate_row_indices(q: Places) -> Places
     }
 }
 
-// The last branch of `gauss_norm_p_dp`. A function of its own, since the lanes take it alone.
-pub fn lower_p_dp(
+// The last branch of `gauss_norm_p_dp`, from the same order of degrees n - 1 and n - 2. A function of
+// its own, since the lanes take it alone.
+pub fn lower_p_dp(k: f32, cos_theta: f32, sin_theta: f32, prev1: PDp, prev2: PDp) -> PDp
+    ensures { λ r. ⌜ r ≡ pdp (lowered «cos_theta» «sin_theta» k (qp prev1) (qp prev2)) ⌝ }
+{
+    PDp {
+        p: cos_theta * prev1.p - k * prev2.p,
+        dp: cos_theta * prev1.dp - sin_theta * prev1.p - k * prev2.dp,
+    }
+}
+
+// The row step. `diagonal` is of degree n - 1 and order m - 1, `prev1` of degree n - 1 and order m,
+// `prev2` of degree n - 2 and order m; each branch reads what it needs.
+pub fn gauss_norm_p_dp(
+    n: usize,
     m: usize,
     k: f32,
     cos_theta: f32,
     sin_theta: f32,
-    p: &[[f32; M_LEN]; 3],
-    dp: &[[f32; M_LEN]; 3],
-    q: Places,
+    diagonal: PDp,
+    prev1: PDp,
+    prev2: PDp,
 ) -> PDp
-    requires { ⌜ (m < M-LEN) × (q .prev1 < 3) × (q .prev2 < 3) ⌝ }
-    ensures { λ r. ⌜ r ≡ pdp (lowered «cos_theta» «sin_theta» k (cells (now (p .entry)) (now (dp .entry)) (q .prev1) m) (cells (now (p .entry)) (now (dp .entry)) (q .prev2) m)) ⌝ }
+    requires { ⌜ (0 < n) × (m ≤ n) ⌝ }
+    ensures { λ r. ⌜ r ≡ pdp (step rounded «cos_theta» «sin_theta» k n m (qp diagonal) (qp prev1) (qp prev2)) ⌝ }
 {
-    let i1 = q.prev1;
-    let i2 = q.prev2;
-    let a = p[i1][m];
-    let b = dp[i1][m];
-    let a2 = p[i2][m];
-    let b2 = dp[i2][m];
+    if n == m {
+        return PDp {
+            p: sin_theta * diagonal.p,
+            dp: sin_theta * diagonal.dp + cos_theta * diagonal.p,
+        };
+    }
+    if n == 1 && m == 0 {
+        return PDp {
+            p: cos_theta,
+            dp: -sin_theta,
+        };
+    }
+    if m > n - 2 {
+        return PDp {
+            p: cos_theta * prev1.p,
+            dp: cos_theta * prev1.dp - sin_theta * prev1.p,
+        };
+    }
+    lower_p_dp(k, cos_theta, sin_theta, prev1, prev2)
+}
+
+// Order m of the row k.
+pub fn p_dp_at(m: usize, k: usize, p: &[[f32; M_LEN]; 3], dp: &[[f32; M_LEN]; 3]) -> PDp
+    requires { ⌜ (m < M-LEN) × (k < 3) ⌝ }
+    ensures { λ r. ⌜ r ≡ pdp (cells (now (p .entry)) (now (dp .entry)) k m) ⌝ }
+{
     PDp {
-        p: cos_theta * a - k * a2,
-        dp: cos_theta * b - sin_theta * a - k * b2,
+        p: p[k][m],
+        dp: dp[k][m],
     }
 }
 
@@ -93,7 +121,9 @@ pub fn lower_lane(
     requires { ⌜ (m < M-LEN) × (i < N-LEGENDRE) × (w < W-LEN) × (q .prev1 < 3) × (q .prev2 < 3) ⌝ }
     ensures { λ r. ⌜ r ≡ loweredAt m i w (now (ks .entry)) (now (cw .entry)) (now (sw .entry)) (now (kw .entry)) (now (p .entry)) (now (dp .entry)) q ⌝ }
 {
-    lower_p_dp(m, ks[i] * kw[w], cw[w], sw[w], p, dp, q)
+    let prev1 = p_dp_at(m, q.prev1, p, dp);
+    let prev2 = p_dp_at(m, q.prev2, p, dp);
+    lower_p_dp(ks[i] * kw[w], cw[w], sw[w], prev1, prev2)
 }
 
 // The lanes m to m + 3. All are read before any is stored, so that they run at once.
@@ -122,45 +152,6 @@ pub fn lower_four(
     Four { r0, r1, r2, r3 }
 }
 
-// The rows are lent: passed by value they would be copied at each order.
-pub fn gauss_norm_p_dp(
-    n: usize,
-    m: usize,
-    k: f32,
-    cos_theta: f32,
-    sin_theta: f32,
-    p: &[[f32; M_LEN]; 3],
-    dp: &[[f32; M_LEN]; 3],
-    q: Places,
-) -> PDp
-    requires { ⌜ (0 < n) × (n < M-LEN) × (m ≤ n) × (q .prev1 < 3) × (q .prev2 < 3) ⌝ }
-    ensures { λ r. ⌜ r ≡ stepped «cos_theta» «sin_theta» k n m (now (p .entry)) (now (dp .entry)) q ⌝ }
-{
-    let i1 = q.prev1;
-    if n == m {
-        let a = p[i1][m - 1];
-        let b = dp[i1][m - 1];
-        PDp {
-            p: sin_theta * a,
-            dp: sin_theta * b + cos_theta * a,
-        }
-    } else if n == 1 && m == 0 {
-        PDp {
-            p: cos_theta,
-            dp: -sin_theta,
-        }
-    } else if m > n - 2 {
-        let a = p[i1][m];
-        let b = dp[i1][m];
-        PDp {
-            p: cos_theta * a,
-            dp: cos_theta * b - sin_theta * a,
-        }
-    } else {
-        lower_p_dp(m, k, cos_theta, sin_theta, p, dp, q)
-    }
-}
-
 // P and its derivative of order m, into the row of the degree.
 pub fn put_p_dp(m: usize, r: PDp, p: &mut [[f32; M_LEN]; 3], dp: &mut [[f32; M_LEN]; 3], cur: usize)
     requires { ⌜ (m < M-LEN) × (cur < 3) ⌝ }
@@ -172,7 +163,24 @@ pub fn put_p_dp(m: usize, r: PDp, p: &mut [[f32; M_LEN]; 3], dp: &mut [[f32; M_L
     dp[cur][m] = v;
 }
 
-// The same of the orders m to m + 3.
+// The same of the orders m and m + 1.
+pub fn put_two(
+    m: usize,
+    r0: PDp,
+    r1: PDp,
+    p: &mut [[f32; M_LEN]; 3],
+    dp: &mut [[f32; M_LEN]; 3],
+    cur: usize,
+)
+    requires { ⌜ (m + 1 < M-LEN) × (cur < 3) ⌝ }
+    ensures { λ _. ⌜ (now (p .exit) ≡ put (put (now (p .entry)) cur m (r0 .p)) cur (m + 1) (r1 .p))
+        × (now (dp .exit) ≡ put (put (now (dp .entry)) cur m (r0 .dp)) cur (m + 1) (r1 .dp)) ⌝ }
+{
+    put_p_dp(m, r0, p, dp, cur);
+    put_p_dp(m + 1, r1, p, dp, cur);
+}
+
+// The same of the orders m to m + 3, by two: two short functions are cheaper to check than one.
 pub fn put_four(
     m: usize,
     r: Four,
@@ -184,8 +192,6 @@ pub fn put_four(
     ensures { λ _. ⌜ (now (p .exit) ≡ put4 (now (p .entry)) cur m (r .r0 .p) (r .r1 .p) (r .r2 .p) (r .r3 .p))
         × (now (dp .exit) ≡ put4 (now (dp .entry)) cur m (r .r0 .dp) (r .r1 .dp) (r .r2 .dp) (r .r3 .dp)) ⌝ }
 {
-    put_p_dp(m, r.r0, p, dp, cur);
-    put_p_dp(m + 1, r.r1, p, dp, cur);
-    put_p_dp(m + 2, r.r2, p, dp, cur);
-    put_p_dp(m + 3, r.r3, p, dp, cur);
+    put_two(m, r.r0, r.r1, p, dp, cur);
+    put_two(m + 2, r.r2, r.r3, p, dp, cur);
 }

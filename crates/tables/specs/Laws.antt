@@ -62,12 +62,12 @@ lowTest num den b = ltb (den * ((units (b - 1) + units b) * (units (b - 1) + uni
 abbrev highTest : ℕ → ℕ → ℕ → Bool
 highTest num den b = ltb (4 * num * 2 ^ 298) (den * ((units b + units (b + 1)) * (units b + units (b + 1))))
 
-unfoldable near : ℕ → ℕ → ℕ → Bool
-near num den b = lowTest num den b && highTest num den b
+unfoldable rooted : ℕ → ℕ → ℕ → Bool
+rooted num den b = lowTest num den b && highTest num den b
 
-near-is : (num den b : ℕ) → T (near num den b) → NearestRoot num den b
-unfolding near
-near-is num den b t =
+rooted-is : (num den b : ℕ) → T (rooted num den b) → NearestRoot num den b
+unfolding rooted
+rooted-is num den b t =
     record {
       above = ltb→lt _ _ (and-l (lowTest num den b) (highTest num den b) t);
       below = ltb→lt _ _ (and-r (lowTest num den b) (highTest num den b) t);
@@ -78,13 +78,13 @@ abbrev pub mended : List ℕ → List ℤ → ℕ → ℕ → ℕ
 mended bits steps n m = moved (getD bits (place n m) 0) (getD steps (place n m) (pos 0))
 
 unfoldable schmidt-right : List ℕ → List ℤ → ℕ → ℕ → Bool
-unfolding near
-schmidt-right bits steps n m = near (squareNum n m) (squareDen n m) (mended bits steps n m)
+unfolding rooted
+schmidt-right bits steps n m = rooted (squareNum n m) (squareDen n m) (mended bits steps n m)
 
 schmidt-law : (N : ℕ) (bits : List ℕ) (steps : List ℤ) → T (triangle (schmidt-right bits steps) N) → (n m : ℕ) → n < suc N → m < suc n
     → NearestRoot (squareNum n m) (squareDen n m) (mended bits steps n m)
 unfolding schmidt-right
-schmidt-law N bits steps t n m hn hm = near-is _ _ _ (at-place (schmidt-right bits steps) N t n m hn hm)
+schmidt-law N bits steps t n m hn hm = rooted-is _ _ _ (at-place (schmidt-right bits steps) N t n m hn hm)
 
 pub schmidt-rule : (n m : ℕ) → n < suc N-MAX → m < suc n → NearestRoot (squareNum n m) (squareDen n m) (mended schmidtBits misses n m)
 unfolding triangle schmidt-right schmidtBits misses squareNum squareDen central factorial units ofBits

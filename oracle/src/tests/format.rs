@@ -1,5 +1,7 @@
 //! Lines: what can be read, what cannot, and how each is written back.
+use crate::entries::Set;
 use crate::format::{parse_case, parse_set, put_case, put_set};
+use crate::models::model_by_epoch_year;
 use crate::replay::{answer, LONGEST};
 use std::io::BufReader;
 
@@ -89,6 +91,32 @@ fn answers() {
     ];
     for (line, expected) in cases {
         assert_eq!(answered(line.as_bytes()), expected, "{line:?}");
+    }
+}
+
+#[test]
+fn a_field_comes_with_its_error_figures() {
+    // document 01's table, by its bits
+    let rows = [
+        (
+            2020,
+            "3e851eb8 45afc800 3e570a3d 43110000 43000000 43030000 42bc0000 431d0000",
+        ),
+        (
+            2025,
+            "3e851eb8 45a94800 3e4ccccd 430a0000 43050000 43090000 42b20000 430d0000",
+        ),
+    ];
+    for (year, figures) in rows {
+        let mut input = Vec::new();
+        put_set(&mut input, &Set::of(model_by_epoch_year(year).unwrap()));
+        let question = format!("FIELD 00000000 00000000 3f800000 00000000 3f800000 {year} 1");
+        input.extend_from_slice(format!("\n{question}\n").as_bytes());
+        let said = answered(&input);
+        let (_, said) = said.split_once(" = 0 ").unwrap();
+        let words: Vec<&str> = said.trim_end().split(' ').collect();
+        assert_eq!(words.len(), 11);
+        assert_eq!(words[3..].join(" "), figures);
     }
 }
 

@@ -1,4 +1,5 @@
 -- `float32::over_cap` meets its contract. Assumes nothing.
+use mathlib.Core.Path.{refl}
 use borrow.Author.Needs.{needs}
 use Rattle.exact.specs.Tests.{capped}
 use Rattle.float32.proofs.over_cap.Statement.{statement}
@@ -9,7 +10,7 @@ abs-requires c κs = search needs
 
 returns : tie.Need-returns
 unfolding capped
-returns c = rw (c .abs .ensures)
+returns c = rw (c .abs .ensures) refl
 
 pub over-cap-spec : {M : Type 1} → statement M
 over-cap-spec = tie.close (tie.spec abs-requires returns)

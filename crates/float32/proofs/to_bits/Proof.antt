@@ -1,4 +1,5 @@
 -- `float32::to_bits` meets its contract. Assumes nothing.
+use mathlib.Core.Path.{refl}
 use borrow.Author.Needs.{needs}
 use lib.Ieee.{toBits}
 use Rattle.float32.proofs.Bits.{same-no-nan, unlike-nan}
@@ -13,7 +14,7 @@ returns c = search needs
 
 returns-2 : tie.Need-returns-2
 unfolding toBits
-returns-2 c = rw (unlike-nan (c .before .args .x) (c .if1 .left))
+returns-2 c = rw (unlike-nan (c .before .args .x) (c .if1 .left)) refl
 
 pub to-bits-spec : {M : Type 1} → statement M
 to-bits-spec = tie.close (tie.spec float-to-bits-result returns returns-2)

@@ -1,7 +1,7 @@
 -- `geocentric::geodetic_to_geocentric` meets its contract: the two roots are what `float32::sqrt_by_guess` promises, whatever the guesses. Assumes nothing.
 use mathlib.Core.Path.{refl}
 use borrow.Author.Needs.{needs}
-use Rattle.geocentric.specs.Geo.{flatness, curve, far, near, cylinder, axis, radiusOf, cosOf, sinOf, geocentricOf}
+use Rattle.geocentric.specs.Geo.{flatness, curve, cosine-factor, sine-factor, cylinder, axis, radiusOf, cosOf, sinOf, geocentricOf}
 use Rattle.geocentric.proofs.geodetic_to_geocentric.Statement.{statement}
 use Rattle.geocentric.proofs.geodetic_to_geocentric.Tie as tie
 
@@ -18,7 +18,7 @@ sqrt-by-guess-requires-2 : tie.Need-sqrt-by-guess-requires-2
 sqrt-by-guess-requires-2 c κs = search needs
 
 returns : tie.Need-returns
-unfolding flatness curve far near cylinder axis radiusOf cosOf sinOf geocentricOf
+unfolding flatness curve cosine-factor sine-factor cylinder axis radiusOf cosOf sinOf geocentricOf
 returns c = rw (c .sqrt-by-guess2 .ensures, c .before .before .sqrt-by-guess .ensures) refl
 
 pub geodetic-to-geocentric-spec : {M : Type 1} → statement M

@@ -1,7 +1,7 @@
 -- `allowance::angles::pole_sin_cos` meets its contract. Assumes nothing.
 use borrow.Author.Needs.{needs}
 use borrow.Author.Tests.{eq-eqb, ne-eqb}
-use Rattle.synthesis.specs.Recurrence.{pole-angle}
+use Rattle.sums.specs.Recurrence.{pole-angle}
 use Rattle.allowance.specs.Bounds.{bounds}
 use Rattle.allowance.proofs.Lits.{abs-zero, abs-one}
 use Rattle.allowance.proofs.angles.pole_sin_cos.Statement.{statement}

@@ -4,7 +4,7 @@ use Prim.Native.Nat.{_≤_, _-_}
 use native.Mathlib.Numerals.{add-one}
 use native.Mathlib.Omega.{arith}
 use borrow.Author.Needs.{needs}
-use Rattle.synthesis.specs.Recurrence.{angle}
+use Rattle.sums.specs.Recurrence.{angle}
 use Rattle.allowance.specs.Bounds.{bounds}
 use Rattle.allowance.proofs.Lits.{abs-zero, abs-one}
 use Rattle.allowance.proofs.angles.sin_cos_m_lambda.Statement.{statement}

@@ -3,7 +3,7 @@ use Prim.Native.Nat.{_^_}
 use native.Mathlib.Omega.{arith}
 use lib.Dec.{le→leb}
 use lib.Ieee.{inFloat}
-use Rattle.synthesis.specs.Recurrence.{lit}
+use Rattle.sums.specs.Recurrence.{lit}
 use Rattle.allowance.specs.Bounds.{bounds}
 use Rattle.allowance.specs.Code.{degreeOf}
 use Rattle.allowance.proofs.Lits.{abs-one, lit-size}

@@ -4,7 +4,8 @@ use native.Mathlib.Omega.{arith}
 use borrow.Author.Needs.{needs}
 use lib.Dec.{le→leb}
 use lib.Ieee.{inFloat}
-use Rattle.synthesis.specs.Recurrence.{lit, gc-hs, gs-hc}
+use Rattle.sums.specs.Recurrence.{gc-hs, gs-hc, lit}
+use Rattle.sums.specs.Paths.{placed}
 use Rattle.synthesis.specs.Sum.{inputs}
 use Rattle.allowance.specs.Bounds.{bounds}
 use Rattle.allowance.specs.Code.{partsOf}
@@ -23,7 +24,7 @@ unfolding inFloat
 int-to-float-order c = le→leb (c .before .before .before .before .before .before .before .args .m) (2 ^ 24) (omega arith)
 
 returns : tie.Need-returns
-unfolding partsOf bounds lit gc-hs gs-hc inputs
+unfolding partsOf bounds lit gc-hs gs-hc inputs placed
 returns c =
     let p = c .before .before .before .before .before in
     let s = p .before .before .before .before .before .before in

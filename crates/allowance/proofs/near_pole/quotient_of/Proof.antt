@@ -4,7 +4,8 @@ use Prim.Native.Nat.{suc, _+_, _-_, _≤_}
 use native.Mathlib.Numerals.{add-one}
 use native.Mathlib.Omega.{arith}
 use Rattle.exact.specs.Tests.{abs}
-use Rattle.synthesis.specs.Recurrence.{quotient}
+use Rattle.sums.specs.Recurrence.{quotient}
+use Rattle.sums.specs.Paths.{placed}
 use Rattle.synthesis.specs.Sum.{Lent, inputs}
 use Rattle.synthesis.proofs.GeneralSum.{k-place}
 use Rattle.allowance.specs.Bounds.{bounds}
@@ -15,7 +16,7 @@ use Rattle.allowance.proofs.near_pole.quotient_of.Tie as tie
 
 abbrev Inv-loop : tie.InvT-loop
 Inv-loop j cos-theta c ks q-prev2₀ q-prev1₀ i₀ q-prev2 q-prev1 i =
-    (i ≤ j) × ((a : Lent) → cos-theta ≡ a .cos-theta → (q-prev1 ≡ quotient bounds (inputs a) (suc i)) × (q-prev2 ≡ quotient bounds (inputs a) i))
+    (i ≤ j) × ((a : Lent) → cos-theta ≡ a .cos-theta → (q-prev1 ≡ quotient bounds (inputs bounds a) (suc i)) × (q-prev2 ≡ quotient bounds (inputs bounds a) i))
 
 abbrev μ-loop : tie.MeasureT-loop
 μ-loop j cos-theta c ks q-prev2₀ q-prev1₀ i₀ q-prev2 q-prev1 i =
@@ -53,7 +54,7 @@ loop-less : tie.Need-loop-less Inv-loop μ-loop
 loop-less c = search needs
 
 loop-again : tie.Need-loop-again Inv-loop μ-loop
-unfolding quotient bounds inputs
+unfolding quotient bounds inputs placed
 loop-again c =
     let i = c .before in
     let l = i .before .before in

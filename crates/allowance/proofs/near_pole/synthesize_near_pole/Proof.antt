@@ -3,7 +3,8 @@ use mathlib.Core.Path.{_≡_, _∙_}
 use Prim.Native.Nat.{_-_, _≤_}
 use native.Mathlib.Omega.{arith}
 use Rattle.tables.specs.Degree.{N-MAX}
-use Rattle.synthesis.specs.Recurrence.{power, total, pole-x, pole-y, pole-z}
+use Rattle.sums.specs.Recurrence.{pole-x, pole-y, pole-z, power, total}
+use Rattle.sums.specs.Paths.{placed}
 use Rattle.synthesis.specs.Sum.{inputs}
 use Rattle.allowance.specs.Bounds.{bounds}
 use Rattle.allowance.specs.Code.{lentAt, nearPole}
@@ -15,7 +16,7 @@ use Rattle.allowance.proofs.near_pole.synthesize_near_pole.Tie as tie
 
 abbrev Inv-loop : tie.InvT-loop
 Inv-loop q g h g-dot h-dot ratio a-over-r-n2₀ tot₀ j₀ a-over-r-n2 tot j =
-    (j ≤ N-MAX) × (a-over-r-n2 ≡ power bounds (inputs (lentAt q g h g-dot h-dot)) j) × (tot ≡ nearPole (lentAt q g h g-dot h-dot) j)
+    (j ≤ N-MAX) × (a-over-r-n2 ≡ power bounds (inputs bounds (lentAt q g h g-dot h-dot)) j) × (tot ≡ nearPole (lentAt q g h g-dot h-dot) j)
 
 abbrev μ-loop : tie.MeasureT-loop
 μ-loop q g h g-dot h-dot ratio a-over-r-n2₀ tot₀ j₀ a-over-r-n2 tot j =
@@ -25,7 +26,7 @@ abs-requires : tie.Need-abs-requires Inv-loop μ-loop
 abs-requires c κs = search needs
 
 loop-holds : tie.Need-loop-holds Inv-loop μ-loop
-unfolding power total pole-x pole-y pole-z inputs bounds
+unfolding power total pole-x pole-y pole-z inputs placed bounds
 loop-holds c = (search needs, rw (c .abs .ensures), rw abs-zero)
 
 pole-part-requires : tie.Need-pole-part-requires Inv-loop μ-loop

@@ -2,7 +2,7 @@
 use borrow.Author.Needs.{needs}
 use borrow.Author.Tests.{eq-eqb, ne-eqb, lt-ltb, le-ltb}
 use native.Mathlib.Omega.{arith}
-use Rattle.synthesis.specs.Recurrence.{step}
+use Rattle.sums.specs.Recurrence.{step}
 use Rattle.allowance.specs.Bounds.{bounds}
 use Rattle.allowance.proofs.rows.gauss_norm_p_dp.Statement.{statement}
 use Rattle.allowance.proofs.rows.gauss_norm_p_dp.Tie as tie

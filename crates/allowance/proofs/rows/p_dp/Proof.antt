@@ -3,6 +3,7 @@ use mathlib.Core.Path.{_≡_, ap, _∙_}
 use Prim.Native.Nat.{_≤_, _-_}
 use native.Mathlib.Omega.{arith}
 use borrow.Author.Needs.{needs}
+use Rattle.allowance.specs.Bounds.{bounds}
 use Rattle.exact.specs.Tests.{abs}
 use Rattle.synthesis.specs.Sum.{Lent, inputs}
 use Rattle.synthesis.proofs.GeneralSum.{k-place}
@@ -13,7 +14,7 @@ use Rattle.allowance.proofs.rows.p_dp.Tie as tie
 
 abbrev Inv-loop : tie.InvT-loop
 Inv-loop n m cos-theta sin-theta c s ks prev2₀ prev1₀ j₀ prev2 prev1 j =
-    (j ≤ n) × ((a : Lent) → cos-theta ≡ a .cos-theta → sin-theta ≡ a .sin-theta → Way (inputs a) j m prev1 prev2)
+    (j ≤ n) × ((a : Lent) → cos-theta ≡ a .cos-theta → sin-theta ≡ a .sin-theta → Way (inputs bounds a) j m prev1 prev2)
 
 abbrev μ-loop : tie.MeasureT-loop
 μ-loop n m cos-theta sin-theta c s ks prev2₀ prev1₀ j₀ prev2 prev1 j =
@@ -29,7 +30,7 @@ k-table-requires : tie.Need-k-table-requires Inv-loop μ-loop
 k-table-requires c κs = search needs
 
 loop-holds : tie.Need-loop-holds Inv-loop μ-loop
-loop-holds c = (search needs, λ a e f. start (inputs a) _)
+loop-holds c = (search needs, λ a e f. start (inputs bounds a) _)
 
 add-order-at : tie.Need-add-order-at Inv-loop μ-loop
 add-order-at c = search needs

@@ -1,8 +1,9 @@
 -- `field::place::check_place` meets its contract: each return is a law of proofs/Answers.antt. Assumes nothing.
 use mathlib.Core.Path.{sym, _∙_}
 use borrow.Author.Tests.{not-true, not-false}
+use lib.Ieee.{le}
 use Rattle.exact.specs.Tests.{circle}
-use Rattle.geocentric.specs.Geo.{heightOk}
+use Rattle.geocentric.specs.Geo.{beyond-pole, heightOk}
 use Rattle.field.proofs.Answers.{bad-height, bad-latitude, behind, bad-longitude, good-place}
 use borrow.Author.Needs.{needs}
 use Rattle.field.proofs.place.check_place.Statement.{statement}
@@ -30,7 +31,7 @@ returns-3 c =
     let e2 = c .before .before in
     let e1 = e2 .before .before in
     let a = e1 .before .before .args in
-    λ p. behind (a .height) (a .latitude .sin) (a .latitude .cos) (a .longitude .sin) (a .longitude .cos) p (not-false (heightOk (a .height)) (sym (e1 .before .outside .ensures) ∙ e1 .if1 .left)) (not-false (circle (a .latitude .sin) (a .latitude .cos)) (sym (e2 .before .off-circle .ensures) ∙ e2 .if2 .left)) (not-true _ (c .if3 .taken))
+    λ p. behind (a .height) (a .latitude .sin) (a .latitude .cos) (a .longitude .sin) (a .longitude .cos) p (not-false (heightOk (a .height)) (sym (e1 .before .outside .ensures) ∙ e1 .if1 .left)) (not-false (circle (a .latitude .sin) (a .latitude .cos)) (sym (e2 .before .off-circle .ensures) ∙ e2 .if2 .left)) (not-true (le beyond-pole (a .latitude .cos)) (c .if3 .taken))
 
 off-circle-requires-2 : tie.Need-off-circle-requires-2
 off-circle-requires-2 c κs = search needs
@@ -41,7 +42,7 @@ returns-4 c =
     let e2 = e3 .before .before in
     let e1 = e2 .before .before in
     let a = e1 .before .before .args in
-    λ p. bad-longitude (a .height) (a .latitude .sin) (a .latitude .cos) (a .longitude .sin) (a .longitude .cos) p (not-false (heightOk (a .height)) (sym (e1 .before .outside .ensures) ∙ e1 .if1 .left)) (not-false (circle (a .latitude .sin) (a .latitude .cos)) (sym (e2 .before .off-circle .ensures) ∙ e2 .if2 .left)) (not-false _ (e3 .if3 .left)) (not-true (circle (a .longitude .sin) (a .longitude .cos)) (sym (c .before .off-circle2 .ensures) ∙ c .if4 .taken))
+    λ p. bad-longitude (a .height) (a .latitude .sin) (a .latitude .cos) (a .longitude .sin) (a .longitude .cos) p (not-false (heightOk (a .height)) (sym (e1 .before .outside .ensures) ∙ e1 .if1 .left)) (not-false (circle (a .latitude .sin) (a .latitude .cos)) (sym (e2 .before .off-circle .ensures) ∙ e2 .if2 .left)) (not-false (le beyond-pole (a .latitude .cos)) (e3 .if3 .left)) (not-true (circle (a .longitude .sin) (a .longitude .cos)) (sym (c .before .off-circle2 .ensures) ∙ c .if4 .taken))
 
 returns-5 : tie.Need-returns-5
 returns-5 c =
@@ -49,7 +50,7 @@ returns-5 c =
     let e2 = e3 .before .before in
     let e1 = e2 .before .before in
     let a = e1 .before .before .args in
-    λ p. good-place (a .height) (a .latitude .sin) (a .latitude .cos) (a .longitude .sin) (a .longitude .cos) p (not-false (heightOk (a .height)) (sym (e1 .before .outside .ensures) ∙ e1 .if1 .left)) (not-false (circle (a .latitude .sin) (a .latitude .cos)) (sym (e2 .before .off-circle .ensures) ∙ e2 .if2 .left)) (not-false _ (e3 .if3 .left)) (not-false (circle (a .longitude .sin) (a .longitude .cos)) (sym (c .before .off-circle2 .ensures) ∙ c .if4 .left))
+    λ p. good-place (a .height) (a .latitude .sin) (a .latitude .cos) (a .longitude .sin) (a .longitude .cos) p (not-false (heightOk (a .height)) (sym (e1 .before .outside .ensures) ∙ e1 .if1 .left)) (not-false (circle (a .latitude .sin) (a .latitude .cos)) (sym (e2 .before .off-circle .ensures) ∙ e2 .if2 .left)) (not-false (le beyond-pole (a .latitude .cos)) (e3 .if3 .left)) (not-false (circle (a .longitude .sin) (a .longitude .cos)) (sym (c .before .off-circle2 .ensures) ∙ c .if4 .left))
 
 pub check-place-spec : {M : Type 1} → statement M
 check-place-spec =

@@ -1,6 +1,6 @@
 -- `field::turn::turn` meets its contract. Assumes nothing.
 use mathlib.Core.Path.{refl}
-use Rattle.synthesis.specs.Arithmetic.{rounded}
+use Rattle.sums.specs.Arithmetic.{rounded}
 use Rattle.field.specs.Turn.{turned, turn-x, turn-z, sin-turn, cos-turn}
 use Rattle.field.proofs.turn.turn.Statement.{statement}
 use Rattle.field.proofs.turn.turn.Tie as tie

@@ -17,7 +17,7 @@ add-if4 : tie.Need-add-if4
 add-if4 c = search needs
 
 returns : tie.Need-returns
-returns c = search needs
+returns c = omega arith
 
 returns-2 : tie.Need-returns-2
 returns-2 c e = absurd (true≢false (sym e))

@@ -1,5 +1,5 @@
 -- `models::calendar::is_leap_year` meets its contract: each remainder is 0 exactly where the number divides the year. Assumes nothing.
-use mathlib.Core.Path.{sym, _∙_}
+use mathlib.Core.Path.{refl, sym, _∙_}
 use Prim.Native.Nat.{ℕ}
 use borrow.Author.Needs.{needs}
 use borrow.Author.Tests.{eq-eqb, ne-eqb}
@@ -31,7 +31,7 @@ returns c =
     let s = c .before .before in
     let b4 = divides-bits (s .args .year) 4 (s .fits .year) in
     let b100 = divides-bits (s .args .year) 100 (s .fits .year) in
-    simp (sym b4 ∙ eq-eqb _ _ (c .before .if1 .taken), b100, sym b100 ∙ ne-eqb _ _ (c .if2 .taken))
+    simp (sym b4 ∙ eq-eqb _ _ (c .before .if1 .taken), b100, sym b100 ∙ ne-eqb _ _ (c .if2 .taken)) refl
 
 returns-2 : tie.Need-returns-2
 unfolding leapYear
@@ -39,13 +39,13 @@ returns-2 c =
     let s = c .before .before in
     let b4 = divides-bits (s .args .year) 4 (s .fits .year) in
     let b100 = divides-bits (s .args .year) 100 (s .fits .year) in
-    simp (sym b4 ∙ eq-eqb _ _ (c .before .if1 .taken), sym b100 ∙ eq-eqb _ _ (c .if2 .left), divides-bits (s .args .year) 400 (s .fits .year))
+    simp (sym b4 ∙ eq-eqb _ _ (c .before .if1 .taken), sym b100 ∙ eq-eqb _ _ (c .if2 .left), divides-bits (s .args .year) 400 (s .fits .year)) refl
 
 returns-3 : tie.Need-returns-3
 unfolding leapYear
 returns-3 c =
     let b4 = divides-bits (c .before .args .year) 4 (c .before .fits .year) in
-    simp (b4, sym b4 ∙ ne-eqb _ _ (c .if1 .left))
+    simp (b4, sym b4 ∙ ne-eqb _ _ (c .if1 .left)) refl
 
 pub is-leap-year-spec : {M : Type 1} → statement M
 is-leap-year-spec = tie.close (tie.spec rem-if1 rem-if2 rem-result returns returns-2 returns-3)

@@ -1,6 +1,6 @@
 -- `models::epochs::epoch` meets its contract. Each test of the code is one of the definition's, and where all pass, a u16
 -- holds the year, the epoch year and the day. Assumes nothing.
-use mathlib.Core.Path.{_≡_, sym, ap, _∙_}
+use mathlib.Core.Path.{_≡_, refl, sym, ap, _∙_}
 use mathlib.Core.Bool.{true, false}
 use mathlib.Core.Logic.{⊎-elim}
 use Prim.Native.Nat.{ℕ, _≤_, _<_, _^_}
@@ -76,7 +76,7 @@ returns-3 : tie.Need-returns-3
 unfolding epochSays dayExists
 returns-3 c =
     let e = c .before .before .before in
-    simp (not-low (e .before), not-high e, sym (known (c .before)) ∙ not-true _ (c .if3 .taken))
+    simp (not-low (e .before), not-high e, sym (known (c .before)) ∙ not-true _ (c .if3 .taken)) refl
 
 -- ---- where every test passed
 abbrev start : tie.Else3 → tie.Start

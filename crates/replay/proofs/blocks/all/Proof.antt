@@ -7,13 +7,10 @@ use Rattle.replay.proofs.blocks.all.Statement.{statement}
 use Rattle.replay.proofs.blocks.all.Tie as tie
 
 abbrev Inv-loop : tie.InvT-loop
-Inv-loop input₀ out₀ entries₀ turns₀ run₀ input out entries turns run = (length input ≡ length input₀) × ((length out ≡ length out₀) × (length entries ≡ length entries₀))
+Inv-loop input₀ entries₀ turns₀ run₀ input entries turns run = (length input ≡ length input₀) × (length entries ≡ length entries₀)
 
 abbrev μ-loop : tie.MeasureT-loop
-μ-loop input₀ out₀ entries₀ turns₀ run₀ input out entries turns run = turns
-
-going-requires : tie.Need-going-requires Inv-loop μ-loop
-going-requires c κs = search needs
+μ-loop input₀ entries₀ turns₀ run₀ input entries turns run = turns
 
 loop-holds : tie.Need-loop-holds Inv-loop μ-loop
 loop-holds c = search needs
@@ -27,9 +24,6 @@ same-length c = search needs
 same-length-2 : tie.Need-same-length-2 Inv-loop μ-loop
 same-length-2 c = search needs
 
-same-length-3 : tie.Need-same-length-3 Inv-loop μ-loop
-same-length-3 c = search needs
-
 returns : tie.Need-returns Inv-loop μ-loop
 returns c = search needs
 
@@ -42,14 +36,11 @@ loop-less c = search needs
 loop-again : tie.Need-loop-again Inv-loop μ-loop
 loop-again c = search needs
 
+same-length-3 : tie.Need-same-length-3 Inv-loop μ-loop
+same-length-3 c = search needs
+
 same-length-4 : tie.Need-same-length-4 Inv-loop μ-loop
 same-length-4 c = search needs
-
-same-length-5 : tie.Need-same-length-5 Inv-loop μ-loop
-same-length-5 c = search needs
-
-same-length-6 : tie.Need-same-length-6 Inv-loop μ-loop
-same-length-6 c = search needs
 
 returns-2 : tie.Need-returns-2 Inv-loop μ-loop
 returns-2 c = search needs
@@ -60,17 +51,14 @@ all-spec =
     (tie.spec
     Inv-loop
     μ-loop
-    going-requires
     loop-holds
     turn-requires
     same-length
     same-length-2
-    same-length-3
     returns
     sub-turns
     loop-less
     loop-again
+    same-length-3
     same-length-4
-    same-length-5
-    same-length-6
     returns-2)

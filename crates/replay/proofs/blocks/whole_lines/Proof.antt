@@ -2,22 +2,49 @@
 -- the block, and each line takes its newline at least. Assumes nothing.
 use lib.ListN.{length}
 use mathlib.Core.Path.{_≡_}
-use Prim.Native.Nat.{_-_}
+use Prim.Native.Nat.{_≤_, _-_}
 use borrow.Author.Needs.{needs}
 use Rattle.replay.proofs.blocks.whole_lines.Statement.{statement}
 use Rattle.replay.proofs.blocks.whole_lines.Tie as tie
 
 abbrev Inv-loop : tie.InvT-loop
-Inv-loop block out₀ entries₀ skip is-skipping₀ from₀ state₀ out entries is-skipping from state = (length out ≡ length out₀) × (length entries ≡ length entries₀)
+Inv-loop block out₀ entries₀ state₀ from₀ end₀ out entries state from end = (from ≤ end) × ((end ≤ length block) × ((length out ≡ length out₀) × (length entries ≡ length entries₀)))
 
 abbrev μ-loop : tie.MeasureT-loop
-μ-loop block out₀ entries₀ skip is-skipping₀ from₀ state₀ out entries is-skipping from state = length block - from
+μ-loop block out₀ entries₀ state₀ from₀ end₀ out entries state from end = length block - from
+
+newline-requires : tie.Need-newline-requires Inv-loop μ-loop
+newline-requires c κs = search needs
 
 loop-holds : tie.Need-loop-holds Inv-loop μ-loop
 loop-holds c = search needs
 
-newline-requires : tie.Need-newline-requires Inv-loop μ-loop
-newline-requires c κs = search needs
+sub-line : tie.Need-sub-line Inv-loop μ-loop
+sub-line c = search needs
+
+part-line-start : tie.Need-part-line-start Inv-loop μ-loop
+part-line-start c = search needs
+
+part-line-end : tie.Need-part-line-end Inv-loop μ-loop
+part-line-end c = search needs
+
+line-requires : tie.Need-line-requires Inv-loop μ-loop
+line-requires c κs = search needs
+
+add-from : tie.Need-add-from Inv-loop μ-loop
+add-from c = search needs
+
+newline-requires-2 : tie.Need-newline-requires-2 Inv-loop μ-loop
+newline-requires-2 c κs = search needs
+
+loop-less : tie.Need-loop-less Inv-loop μ-loop
+loop-less c = search needs
+
+loop-again : tie.Need-loop-again Inv-loop μ-loop
+loop-again c = search needs
+
+flush-requires : tie.Need-flush-requires Inv-loop μ-loop
+flush-requires c κs = search needs
 
 same-length : tie.Need-same-length Inv-loop μ-loop
 same-length c = search needs
@@ -28,54 +55,23 @@ same-length-2 c = search needs
 returns : tie.Need-returns Inv-loop μ-loop
 returns c = search needs
 
-sub-one-line : tie.Need-sub-one-line Inv-loop μ-loop
-sub-one-line c = search needs
-
-part-one-line-start : tie.Need-part-one-line-start Inv-loop μ-loop
-part-one-line-start c = search needs
-
-part-one-line-end : tie.Need-part-one-line-end Inv-loop μ-loop
-part-one-line-end c = search needs
-
-one-line-requires : tie.Need-one-line-requires Inv-loop μ-loop
-one-line-requires c κs = search needs
-
-add-from : tie.Need-add-from Inv-loop μ-loop
-add-from c = search needs
-
-loop-less : tie.Need-loop-less Inv-loop μ-loop
-loop-less c = search needs
-
-loop-again : tie.Need-loop-again Inv-loop μ-loop
-loop-again c = search needs
-
-same-length-3 : tie.Need-same-length-3 Inv-loop μ-loop
-same-length-3 c = search needs
-
-same-length-4 : tie.Need-same-length-4 Inv-loop μ-loop
-same-length-4 c = search needs
-
-returns-2 : tie.Need-returns-2 Inv-loop μ-loop
-returns-2 c = search needs
-
 pub whole-lines-spec : {M : Type 1} → statement M
 whole-lines-spec =
     tie.close
     (tie.spec
     Inv-loop
     μ-loop
-    loop-holds
     newline-requires
-    same-length
-    same-length-2
-    returns
-    sub-one-line
-    part-one-line-start
-    part-one-line-end
-    one-line-requires
+    loop-holds
+    sub-line
+    part-line-start
+    part-line-end
+    line-requires
     add-from
+    newline-requires-2
     loop-less
     loop-again
-    same-length-3
-    same-length-4
-    returns-2)
+    flush-requires
+    same-length
+    same-length-2
+    returns)

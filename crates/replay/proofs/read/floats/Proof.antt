@@ -1,5 +1,5 @@
--- `replay::read::floats` is safe and ends. A store leaves the lists as long as they were. The measure is how many
--- floats are left. Assumes nothing.
+-- `replay::read::floats` is safe and ends. A store leaves the list as long as it was. The measure is what is left of
+-- it. Assumes nothing.
 use lib.ListN.{length}
 use mathlib.Core.Path.{_≡_}
 use Prim.Native.Nat.{_-_}
@@ -8,34 +8,22 @@ use Rattle.replay.proofs.read.floats.Statement.{statement}
 use Rattle.replay.proofs.read.floats.Tie as tie
 
 abbrev Inv-loop : tie.InvT-loop
-Inv-loop line at n lists₀ start next₀ i₀ lists next i = length lists ≡ length lists₀
+Inv-loop line at list₀ next₀ i₀ list next i = length list ≡ length list₀
 
 abbrev μ-loop : tie.MeasureT-loop
-μ-loop line at n lists₀ start next₀ i₀ lists next i = n - i
+μ-loop line at list₀ next₀ i₀ list next i = length list₀ - i
 
 loop-holds : tie.Need-loop-holds Inv-loop μ-loop
 loop-holds c = search needs
 
-add-if1 : tie.Need-add-if1 Inv-loop μ-loop
-add-if1 c = search needs
+float-at-requires : tie.Need-float-at-requires Inv-loop μ-loop
+float-at-requires c κs = search needs
 
-same-length : tie.Need-same-length Inv-loop μ-loop
-same-length c = search needs
+mul-list : tie.Need-mul-list Inv-loop μ-loop
+mul-list c = search needs
 
-returns : tie.Need-returns Inv-loop μ-loop
-returns c = search needs
-
-float-requires : tie.Need-float-requires Inv-loop μ-loop
-float-requires c κs = search needs
-
-add-lists : tie.Need-add-lists Inv-loop μ-loop
-add-lists c = search needs
-
-mul-lists : tie.Need-mul-lists Inv-loop μ-loop
-mul-lists c = search needs
-
-slice-write-lists : tie.Need-slice-write-lists Inv-loop μ-loop
-slice-write-lists c = search needs
+slice-write-list : tie.Need-slice-write-list Inv-loop μ-loop
+slice-write-list c = search needs
 
 add-i : tie.Need-add-i Inv-loop μ-loop
 add-i c = search needs
@@ -46,11 +34,11 @@ loop-less c = search needs
 loop-again : tie.Need-loop-again Inv-loop μ-loop
 loop-again c = search needs
 
-same-length-2 : tie.Need-same-length-2 Inv-loop μ-loop
-same-length-2 c = search needs
+same-length : tie.Need-same-length Inv-loop μ-loop
+same-length c = search needs
 
-returns-2 : tie.Need-returns-2 Inv-loop μ-loop
-returns-2 c = search needs
+returns : tie.Need-returns Inv-loop μ-loop
+returns c = search needs
 
 pub floats-spec : {M : Type 1} → statement M
 floats-spec =
@@ -59,15 +47,11 @@ floats-spec =
     Inv-loop
     μ-loop
     loop-holds
-    add-if1
-    same-length
-    returns
-    float-requires
-    add-lists
-    mul-lists
-    slice-write-lists
+    float-at-requires
+    mul-list
+    slice-write-list
     add-i
     loop-less
     loop-again
-    same-length-2
-    returns-2)
+    same-length
+    returns)

@@ -7,9 +7,9 @@ use borrow.Author.Needs.{needs}
 use lib.ListN.{drop}
 use lib.Ieee.{ofInt, ofBits, round}
 use Rattle.tables.specs.Degree.{M-LEN}
-use Rattle.synthesis.specs.Arithmetic.{rounded}
-use Rattle.synthesis.specs.Recurrence.{lit, angle}
-use Rattle.synthesis.specs.Code.{first, sinAt, cosAt, anglesOf}
+use Rattle.sums.specs.Arithmetic.{rounded}
+use Rattle.sums.specs.Recurrence.{angle, lit}
+use Rattle.synthesis.specs.Code.{anglesOf, cosAt, first, sinAt}
 use Rattle.synthesis.proofs.Filled.{next-sin, next-cos}
 use Rattle.synthesis.proofs.angles.sin_cos_m_lambda.Statement.{statement}
 use Rattle.synthesis.proofs.angles.sin_cos_m_lambda.Tie as tie

@@ -1,10 +1,18 @@
 -- `synthesis::checks::check_lists` meets its contract: each return is a law of proofs/Checked.antt. Assumes nothing.
-use mathlib.Core.Path.{sym, _∙_}
+use mathlib.Core.Path.{_≡_, sym, _∙_}
+use mathlib.Core.Bool.{Bool, true, false, not}
 use borrow.Author.Tests.{not-true, not-false}
 use Rattle.synthesis.proofs.Checked.{too-short, lists-pass, bad-g, bad-h, bad-gd, last-list}
 use borrow.Author.Needs.{needs}
 use Rattle.synthesis.proofs.checks.check_lists.Statement.{statement}
 use Rattle.synthesis.proofs.checks.check_lists.Tie as tie
+
+-- over variables, so that the places of the code are written out once
+same : {r l b : Bool} → r ≡ l → r ≡ b → l ≡ b
+same e h = sym e ∙ h
+
+held : {r l : Bool} → r ≡ l → not r ≡ false → l ≡ true
+held {r} e h = same e (not-false r h)
 
 lists-long-requires : tie.Need-lists-long-requires
 lists-long-requires c κs = search needs
@@ -19,7 +27,7 @@ returns-2 : tie.Need-returns-2
 returns-2 c =
     let w = c .before in
     let o = w .before in
-    lists-pass _ _ _ _ (sym (o .before .lists-long .ensures) ∙ not-false _ (o .if1 .left)) (sym (w .lists-within .ensures) ∙ c .if2 .taken)
+    lists-pass _ _ _ _ (held (o .before .lists-long .ensures) (o .if1 .left)) (same (w .lists-within .ensures) (c .if2 .taken))
 
 check-entries-requires : tie.Need-check-entries-requires
 check-entries-requires c κs = search needs
@@ -31,7 +39,7 @@ returns-3 : tie.Need-returns-3
 returns-3 c =
     let f0 = c .before .before .before in
     let o = f0 .before .before .before in
-    bad-g _ _ _ _ (sym (o .before .lists-long .ensures) ∙ not-false _ (o .if1 .left)) _ _ (f0 .check-entries .ensures) (c .before .k .given .1)
+    bad-g _ _ _ _ (held (o .before .lists-long .ensures) (o .if1 .left)) _ _ (f0 .check-entries .ensures) (c .before .k .given .1)
 
 enum-told : tie.Need-enum-told
 enum-told c = search needs
@@ -48,7 +56,7 @@ returns-4 c =
     let t0 = f1 .before in
     let f0 = t0 .before .before in
     let o = f0 .before .before .before in
-    bad-h _ _ _ _ (sym (o .before .lists-long .ensures) ∙ not-false _ (o .if1 .left)) _ (f0 .check-entries .ensures) (t0 .enum-told .given .1) _ _ (f1 .check-entries2 .ensures) (c .before .k2 .given .1)
+    bad-h _ _ _ _ (held (o .before .lists-long .ensures) (o .if1 .left)) _ (f0 .check-entries .ensures) (t0 .enum-told .given .1) _ _ (f1 .check-entries2 .ensures) (c .before .k2 .given .1)
 
 enum-told-2 : tie.Need-enum-told-2
 enum-told-2 c = search needs
@@ -67,7 +75,7 @@ returns-5 c =
     let t0 = f1 .before in
     let f0 = t0 .before .before in
     let o = f0 .before .before .before in
-    bad-gd _ _ _ _ (sym (o .before .lists-long .ensures) ∙ not-false _ (o .if1 .left)) _ (f0 .check-entries .ensures) (t0 .enum-told .given .1) _ (f1 .check-entries2 .ensures) (t1 .enum-told2 .given .1) _ _ (f2 .check-entries3 .ensures) (c .before .k3 .given .1)
+    bad-gd _ _ _ _ (held (o .before .lists-long .ensures) (o .if1 .left)) _ (f0 .check-entries .ensures) (t0 .enum-told .given .1) _ (f1 .check-entries2 .ensures) (t1 .enum-told2 .given .1) _ _ (f2 .check-entries3 .ensures) (c .before .k3 .given .1)
 
 enum-told-3 : tie.Need-enum-told-3
 enum-told-3 c = search needs
@@ -84,7 +92,7 @@ returns-6 c =
     let t0 = f1 .before in
     let f0 = t0 .before .before in
     let o = f0 .before .before .before in
-    last-list _ _ _ _ (sym (o .before .lists-long .ensures) ∙ not-false _ (o .if1 .left)) _ (f0 .check-entries .ensures) (t0 .enum-told .given .1) _ (f1 .check-entries2 .ensures) (t1 .enum-told2 .given .1) _ (c .check-entries4 .result) (f2 .check-entries3 .ensures) (t2 .enum-told3 .given .1) (c .check-entries4 .ensures)
+    last-list _ _ _ _ (held (o .before .lists-long .ensures) (o .if1 .left)) _ (f0 .check-entries .ensures) (t0 .enum-told .given .1) _ (f1 .check-entries2 .ensures) (t1 .enum-told2 .given .1) _ (c .check-entries4 .result) (f2 .check-entries3 .ensures) (t2 .enum-told3 .given .1) (c .check-entries4 .ensures)
 
 pub check-lists-spec : {M : Type 1} → statement M
 check-lists-spec =

@@ -1,8 +1,8 @@
 -- `synthesis::checks::check_numbers` meets its contract: each return by the tests that led there. Assumes nothing.
-use mathlib.Core.Path.{sym, _∙_}
+use mathlib.Core.Path.{refl, sym, _∙_}
 use borrow.Author.Tests.{not-true, not-false}
 use Rattle.exact.specs.Tests.{circle}
-use Rattle.synthesis.specs.Sum.{ratio-ok, offset-ok, numbersSay}
+use Rattle.synthesis.specs.Sum.{numbersSay, offset-ok, ratio-ok}
 use borrow.Author.Needs.{needs}
 use Rattle.synthesis.proofs.checks.check_numbers.Statement.{statement}
 use Rattle.synthesis.proofs.checks.check_numbers.Tie as tie
@@ -44,7 +44,7 @@ returns-3 c =
       not-false (circle (a .colatitude .sin) (a .colatitude .cos)) (sym (e1 .before .off-circle .ensures) ∙ e1 .if1 .left),
       not-false (circle (a .longitude .sin) (a .longitude .cos)) (sym (e2 .before .off-circle2 .ensures) ∙ e2 .if2 .left),
       not-true (ratio-ok (a .ratio)) (sym (c .before .outside .ensures) ∙ c .if3 .taken),
-    )
+    ) refl
 
 outside-requires-2 : tie.Need-outside-requires-2
 outside-requires-2 c κs = search needs

@@ -7,9 +7,9 @@ use borrow.Author.Needs.{needs}
 use lib.ListN.{getD, drop}
 use lib.Ieee.{nan}
 use Rattle.tables.specs.Degree.{N-COEFF}
-use Rattle.synthesis.specs.Arithmetic.{rounded}
-use Rattle.synthesis.specs.Recurrence.{coefficient}
-use Rattle.synthesis.specs.Code.{first, atDate}
+use Rattle.sums.specs.Arithmetic.{rounded}
+use Rattle.sums.specs.Recurrence.{coefficient}
+use Rattle.synthesis.specs.Code.{atDate, first}
 use Rattle.synthesis.proofs.Filled.{first-next}
 use Rattle.synthesis.proofs.date.at_date.Statement.{statement}
 use Rattle.synthesis.proofs.date.at_date.Tie as tie

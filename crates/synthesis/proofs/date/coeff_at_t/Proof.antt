@@ -1,6 +1,6 @@
 -- `synthesis::date::coeff_at_t` meets its contract. Assumes nothing.
 use mathlib.Core.Path.{refl}
-use Rattle.synthesis.specs.Arithmetic.{rounded}
+use Rattle.sums.specs.Arithmetic.{rounded}
 use Rattle.synthesis.proofs.date.coeff_at_t.Statement.{statement}
 use Rattle.synthesis.proofs.date.coeff_at_t.Tie as tie
 

@@ -5,8 +5,8 @@ use lib.Dec.{le→leb}
 use lib.Ieee.{inFloat}
 use mathlib.Core.Path.{refl}
 use Rattle.synthesis.proofs.GeneralSum.{lit-one}
-use Rattle.synthesis.specs.Arithmetic.{rounded}
-use Rattle.synthesis.specs.Recurrence.{lit}
+use Rattle.sums.specs.Arithmetic.{rounded}
+use Rattle.sums.specs.Recurrence.{lit}
 use Rattle.synthesis.specs.Code.{addDegree}
 use Rattle.synthesis.proofs.general.add_degree.Statement.{statement}
 use Rattle.synthesis.proofs.general.add_degree.Tie as tie

@@ -4,8 +4,9 @@ use Prim.Native.Nat.{_-_, _≤_}
 use native.Mathlib.Omega.{arith}
 use native.Mathlib.Numerals.{add-one}
 use borrow.Author.Needs.{needs}
-use Rattle.synthesis.specs.Arithmetic.{rounded}
-use Rattle.synthesis.specs.Recurrence.{Input, total}
+use lib.Ieee.{Float}
+use Rattle.sums.specs.Arithmetic.{rounded}
+use Rattle.sums.specs.Recurrence.{Input, total}
 use Rattle.synthesis.specs.Code.{cell}
 use Rattle.synthesis.proofs.GeneralSum.{lit-zero}
 use Rattle.synthesis.proofs.general.add_terms.Statement.{statement}
@@ -13,7 +14,7 @@ use Rattle.synthesis.proofs.general.add_terms.Tie as tie
 
 abbrev Inv-loop : tie.InvT-loop
 Inv-loop count t x₀ y₀ z₀ m₀ x y z m =
-    (m ≤ count) × ((i : Input) → (x ≡ total rounded i (cell t 0) m) × (y ≡ total rounded i (cell t 1) m) × (z ≡ total rounded i (cell t 2) m))
+    (m ≤ count) × ((i : Input Float) → (x ≡ total rounded i (cell t 0) m) × (y ≡ total rounded i (cell t 1) m) × (z ≡ total rounded i (cell t 2) m))
 
 abbrev μ-loop : tie.MeasureT-loop
 μ-loop count t x₀ y₀ z₀ m₀ x y z m = count - m

@@ -5,8 +5,9 @@ use Prim.Native.Nat.{_*_, _-_, _/_, _<_, _≤_}
 use native.Mathlib.Omega.{arith}
 use borrow.Author.Needs.{needs}
 use borrow.Author.Tests.{ltb-false, ltb-true}
+use lib.Ieee.{Float}
 use Rattle.tables.specs.Degree.{N-MAX}
-use Rattle.synthesis.specs.Recurrence.{Input}
+use Rattle.sums.specs.Recurrence.{Input}
 use Rattle.synthesis.specs.Code.{Given, Row, Weighed}
 use Rattle.synthesis.proofs.GeneralSum.{added, all-terms, begin, last-term, lanes-end}
 use Rattle.synthesis.proofs.general.degree.Statement.{statement}
@@ -15,7 +16,7 @@ use Rattle.synthesis.proofs.general.degree.Tie as tie
 abbrev Inv-loop : tie.InvT-loop
 Inv-loop n ks cw sw kw ss gt ht os sin cos p₀ dp₀ q last t₀ m₀ p dp t m =
     (4 * (m / 4) ≡ m) × (m ≤ N-MAX)
-    × ((i : Input) → Given i ks ss gt ht os sin cos → Weighed i cw sw kw → Row i n m₀ p₀ dp₀ q t₀ → Row i n m p dp q t)
+    × ((i : Input Float) → Given i ks ss gt ht os sin cos → Weighed i cw sw kw → Row i n m₀ p₀ dp₀ q t₀ → Row i n m p dp q t)
 
 abbrev μ-loop : tie.MeasureT-loop
 μ-loop n ks cw sw kw ss gt ht os sin cos p₀ dp₀ q last t₀ m₀ p dp t m = N-MAX - m

@@ -1,7 +1,7 @@
 -- `synthesis::general::orders` meets its contract, by computation. Assumes nothing.
 use mathlib.Core.Path.{refl}
 use lib.Ieee.{ofInt, ofBits, round}
-use Rattle.synthesis.specs.Recurrence.{lit}
+use Rattle.sums.specs.Recurrence.{lit}
 use Rattle.synthesis.specs.Code.{first}
 use Rattle.synthesis.proofs.general.orders.Statement.{statement}
 use Rattle.synthesis.proofs.general.orders.Tie as tie

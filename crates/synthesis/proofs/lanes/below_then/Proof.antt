@@ -13,7 +13,7 @@ use lib.Seq.{getD-set-same, getD-set-other}
 use lib.Ieee.{Float, nan}
 use Rattle.tables.specs.Degree.{N-MAX}
 use Rattle.synthesis.specs.Code.{W-LEN}
-use Rattle.synthesis.proofs.RowsHold.{less-or, same-or}
+use Rattle.sums.proofs.Step.{less-or, same-or}
 use Rattle.synthesis.proofs.lanes.below_then.Statement.{statement}
 use Rattle.synthesis.proofs.lanes.below_then.Tie as tie
 

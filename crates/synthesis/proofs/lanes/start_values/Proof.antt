@@ -7,7 +7,7 @@ use borrow.Author.Needs.{needs}
 use lib.ListN.{drop}
 use lib.Ieee.{ofInt, ofBits, round}
 use Rattle.tables.specs.Degree.{M-LEN}
-use Rattle.synthesis.specs.Recurrence.{lit}
+use Rattle.sums.specs.Recurrence.{lit}
 use Rattle.synthesis.specs.Code.{first, startAt, startsOf}
 use Rattle.synthesis.proofs.Filled.{next-p, next-dp}
 use Rattle.synthesis.proofs.lanes.start_values.Statement.{statement}

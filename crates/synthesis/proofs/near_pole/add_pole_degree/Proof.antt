@@ -5,19 +5,19 @@ use lib.Dec.{le→leb}
 use lib.Ieee.{inFloat}
 use mathlib.Core.Path.{refl}
 use Rattle.synthesis.proofs.GeneralSum.{lit-one}
-use Rattle.synthesis.specs.Arithmetic.{rounded}
-use Rattle.synthesis.specs.Recurrence.{lit}
+use Rattle.sums.specs.Arithmetic.{rounded}
+use Rattle.sums.specs.Recurrence.{lit}
 use Rattle.synthesis.specs.Code.{addPoleDegree}
 use Rattle.synthesis.proofs.near_pole.add_pole_degree.Statement.{statement}
 use Rattle.synthesis.proofs.near_pole.add_pole_degree.Tie as tie
 
-int-to-float-t7 : tie.Need-int-to-float-t7
+int-to-float-t8 : tie.Need-int-to-float-t8
 unfolding inFloat
-int-to-float-t7 c = le→leb (c .before .before .before .args .n) (2 ^ 24) (omega arith)
+int-to-float-t8 c = le→leb (c .before .before .before .before .before .args .n) (2 ^ 24) (omega arith)
 
 returns : tie.Need-returns
 unfolding addPoleDegree rounded lit
 returns c = rw (← lit-one) refl
 
 pub add-pole-degree-spec : {M : Type 1} → statement M
-add-pole-degree-spec = tie.close (tie.spec int-to-float-t7 returns)
+add-pole-degree-spec = tie.close (tie.spec int-to-float-t8 returns)

@@ -1,6 +1,6 @@
 -- `synthesis::near_pole::next_q` meets its contract. Assumes nothing.
 use borrow.Author.Tests.{eq-eqb, ne-eqb}
-use Rattle.synthesis.specs.Arithmetic.{rounded}
+use Rattle.sums.specs.Arithmetic.{rounded}
 use Rattle.synthesis.specs.Code.{nextQ}
 use Rattle.synthesis.proofs.near_pole.next_q.Statement.{statement}
 use Rattle.synthesis.proofs.near_pole.next_q.Tie as tie

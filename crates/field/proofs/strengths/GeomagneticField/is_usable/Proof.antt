@@ -1,10 +1,9 @@
 -- `field::strengths::GeomagneticField::is_usable` meets its contract. Assumes nothing.
-use mathlib.Core.Path.{sym, ap, _∙_}
+use mathlib.Core.Path.{_≡_, sym, ap, _∙_}
 use mathlib.Core.Bool.{not}
 use borrow.Author.Tests.{not-true, not-false}
-use lib.Ieee.{binary32, ofBits}
 use Rattle.exact.specs.Tests.{capped}
-use Rattle.field.specs.Strengths.{usable}
+use Rattle.field.specs.Strengths.{max-component, usable}
 use Rattle.field.proofs.StrengthLaws.{not-not}
 use borrow.Author.Needs.{needs}
 use Rattle.field.proofs.strengths.GeomagneticField.is_usable.Statement.{statement}
@@ -17,7 +16,7 @@ returns : tie.Need-returns
 unfolding usable
 returns c =
     let a = c .before .before .args in
-    simp (not-true (capped (ofBits binary32 0x5d800000) (a .self .x)) (sym (c .before .over-cap .ensures) ∙ c .if1 .taken))
+    simp (not-true (capped max-component (a .self .x)) (sym (c .before .over-cap .ensures) ∙ c .if1 .taken))
 
 over-cap-requires-2 : tie.Need-over-cap-requires-2
 over-cap-requires-2 c κs = search needs
@@ -27,7 +26,7 @@ unfolding usable
 returns-2 c =
     let e1 = c .before .before in
     let a = e1 .before .before .args in
-    simp (not-false (capped (ofBits binary32 0x5d800000) (a .self .x)) (sym (e1 .before .over-cap .ensures) ∙ e1 .if1 .left), not-true (capped (ofBits binary32 0x5d800000) (a .self .y)) (sym (c .before .over-cap2 .ensures) ∙ c .if2 .taken))
+    simp (not-false (capped max-component (a .self .x)) (sym (e1 .before .over-cap .ensures) ∙ e1 .if1 .left), not-true (capped max-component (a .self .y)) (sym (c .before .over-cap2 .ensures) ∙ c .if2 .taken))
 
 over-cap-requires-3 : tie.Need-over-cap-requires-3
 over-cap-requires-3 c κs = search needs
@@ -38,7 +37,8 @@ returns-3 c =
     let e2 = c .before in
     let e1 = e2 .before .before in
     let a = e1 .before .before .args in
-    simp (not-false (capped (ofBits binary32 0x5d800000) (a .self .x)) (sym (e1 .before .over-cap .ensures) ∙ e1 .if1 .left), not-false (capped (ofBits binary32 0x5d800000) (a .self .y)) (sym (e2 .before .over-cap2 .ensures) ∙ e2 .if2 .left)) (ap not (c .over-cap3 .ensures) ∙ not-not (capped (ofBits binary32 0x5d800000) (a .self .z)))
+    let z : c .over-cap3 .result ≡ not (capped max-component (a .self .z)) = c .over-cap3 .ensures in
+    simp (not-false (capped max-component (a .self .x)) (sym (e1 .before .over-cap .ensures) ∙ e1 .if1 .left), not-false (capped max-component (a .self .y)) (sym (e2 .before .over-cap2 .ensures) ∙ e2 .if2 .left)) (ap not z ∙ not-not (capped max-component (a .self .z)))
 
 pub is-usable-spec : {M : Type 1} → statement M
 is-usable-spec =

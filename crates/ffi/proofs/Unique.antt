@@ -1,0 +1,76 @@
+-- Every entry's contract leaves one number, and one content of each place that is lent for results: each law is over what the kit makes of the
+-- entry's `ensures`.
+use mathlib.Core.Path.{_≡_, sym, _∙_}
+use Rattle.refusals.specs.One.{OneResult}
+use Rattle.ffi.proofs.fields.njerumoy_field as field-fn
+use Rattle.ffi.proofs.fields.njerumoy_allowance as allowance-fn
+use Rattle.ffi.proofs.sums.njerumoy_sum as sum-fn
+use Rattle.ffi.proofs.days.njerumoy_epoch as epoch-fn
+use Rattle.ffi.proofs.strengths.njerumoy_horizontal as horizontal-fn
+use Rattle.ffi.proofs.strengths.njerumoy_total as total-fn
+use Rattle.ffi.proofs.strengths.njerumoy_zone as zone-fn
+use Rattle.ffi.proofs.strengths.njerumoy_declination_uncertainty as declination-uncertainty-fn
+use Rattle.ffi.proofs.strengths.njerumoy_grid_variation as grid-variation-fn
+use Rattle.ffi.proofs.strengths.njerumoy_square_root as square-root-fn
+
+-- what the contract says of the one and of the other is the same thing
+same : {A : Type 0} {t x y : A} → x ≡ t → y ≡ t → x ≡ y
+same e f = e ∙ sym f
+
+pub njerumoy-field : OneResult field-fn.Kinds.ps field-fn.Kinds.r field-fn.Reads.Post
+njerumoy-field κs a x y u v p q =
+    let xyz = same (p .0 .1) (q .0 .1) in
+    let errors = same (p .0 .2) (q .0 .2) in
+    let entry = same (p .0 .3) (q .0 .3) in
+    let years = same (p .0 .4) (q .0 .4) in
+    (same (p .0 .0) (q .0 .0), λ i. (tt, (tt, (tt, (tt, (tt, (tt, (tt, (tt, (tt, (tt, (tt, (tt, (xyz i, (errors i, (entry i, (years i, tt)))))))))))))))))
+
+pub njerumoy-allowance : OneResult allowance-fn.Kinds.ps allowance-fn.Kinds.r allowance-fn.Reads.Post
+njerumoy-allowance κs a x y u v p q =
+    let allowances = same (p .0 .1) (q .0 .1) in
+    let entry = same (p .0 .2) (q .0 .2) in
+    let years = same (p .0 .3) (q .0 .3) in
+    (same (p .0 .0) (q .0 .0), λ i. (tt, (tt, (tt, (tt, (tt, (tt, (tt, (tt, (tt, (tt, (tt, (tt, (allowances i, (entry i, (years i, tt))))))))))))))))
+
+pub njerumoy-sum : OneResult sum-fn.Kinds.ps sum-fn.Kinds.r sum-fn.Reads.Post
+njerumoy-sum κs a x y u v p q =
+    let xyz = same (p .0 .1) (q .0 .1) in
+    let entry = same (p .0 .2) (q .0 .2) in
+    (same (p .0 .0) (q .0 .0), λ i. (tt, (tt, (tt, (tt, (tt, (tt, (tt, (tt, (tt, (tt, (xyz i, (entry i, tt)))))))))))))
+
+pub njerumoy-epoch : OneResult epoch-fn.Kinds.ps epoch-fn.Kinds.r epoch-fn.Reads.Post
+njerumoy-epoch κs a x y u v p q =
+    let epoch-year = same (p .1) (q .1) in
+    let offset = same (p .2) (q .2) in
+    (same (p .0) (q .0), λ i. (tt, (tt, (epoch-year i, (offset i, tt)))))
+
+pub njerumoy-horizontal : OneResult horizontal-fn.Kinds.ps horizontal-fn.Kinds.r horizontal-fn.Reads.Post
+njerumoy-horizontal κs a x y u v p q =
+    let h = same (p .1) (q .1) in
+    (same (p .0) (q .0), λ i. (tt, (tt, (tt, (h i, tt)))))
+
+pub njerumoy-total : OneResult total-fn.Kinds.ps total-fn.Kinds.r total-fn.Reads.Post
+njerumoy-total κs a x y u v p q =
+    let f = same (p .1) (q .1) in
+    (same (p .0) (q .0), λ i. (tt, (tt, (tt, (f i, tt)))))
+
+pub njerumoy-zone : OneResult zone-fn.Kinds.ps zone-fn.Kinds.r zone-fn.Reads.Post
+njerumoy-zone κs a x y u v p q =
+    let zone = same (p .1) (q .1) in
+    (same (p .0) (q .0), λ i. (tt, (tt, (tt, (zone i, tt)))))
+
+pub njerumoy-declination-uncertainty : OneResult declination-uncertainty-fn.Kinds.ps declination-uncertainty-fn.Kinds.r declination-uncertainty-fn.Reads.Post
+njerumoy-declination-uncertainty κs a x y u v p q =
+    let uncertainty = same (p .1) (q .1) in
+    (same (p .0) (q .0), λ i. (tt, (tt, (tt, (tt, (uncertainty i, tt))))))
+
+pub njerumoy-grid-variation : OneResult grid-variation-fn.Kinds.ps grid-variation-fn.Kinds.r grid-variation-fn.Reads.Post
+njerumoy-grid-variation κs a x y u v p q =
+    let given = same (p .1) (q .1) in
+    let variation = same (p .2) (q .2) in
+    (same (p .0) (q .0), λ i. (tt, (tt, (tt, (given i, (variation i, tt))))))
+
+pub njerumoy-square-root : OneResult square-root-fn.Kinds.ps square-root-fn.Kinds.r square-root-fn.Reads.Post
+njerumoy-square-root κs a x y u v p q =
+    let root = same (p .1) (q .1) in
+    (same (p .0) (q .0), λ i. (tt, (root i, tt)))

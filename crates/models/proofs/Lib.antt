@@ -1,0 +1,2 @@
+-- That each contract leaves one result.
+pub mod Unique

@@ -1,0 +1,16 @@
+-- Every public contract leaves one result: each law is over what the kit makes of the function's `ensures`.
+use mathlib.Core.Path.{refl}
+use Rattle.models.specs.Laws.{epoch-answer-one, error-answer-one}
+use Rattle.refusals.specs.One.{OneResult}
+use Rattle.models.proofs.epochs.known_epoch as known-epoch-fn
+use Rattle.models.proofs.epochs.epoch as epoch-fn
+use Rattle.models.proofs.errors.error_model_by_epoch_year as error-model-by-epoch-year-fn
+
+pub known-epoch : OneResult known-epoch-fn.Kinds.ps known-epoch-fn.Kinds.r known-epoch-fn.Reads.Post
+known-epoch κs a x y u v p q = (cc, refl)
+
+pub epoch : OneResult epoch-fn.Kinds.ps epoch-fn.Kinds.r epoch-fn.Reads.Post
+epoch κs a x y u v p q = (epoch-answer-one _ _ x y p q, refl)
+
+pub error-model-by-epoch-year : OneResult error-model-by-epoch-year-fn.Kinds.ps error-model-by-epoch-year-fn.Kinds.r error-model-by-epoch-year-fn.Reads.Post
+error-model-by-epoch-year κs a x y u v p q = (error-answer-one _ x y p q, refl)

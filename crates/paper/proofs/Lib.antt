@@ -1,0 +1,2 @@
+-- That every public contract leaves one result.
+pub mod Unique

@@ -1,0 +1,13 @@
+-- Every public contract leaves one result: the law of each public function and of each entry for C, named after it. A law is over the contract that
+-- the kit makes of the function's own `ensures` (`OneResult`, refusals/specs/One.antt). It stands in the function's crate, in proofs/Unique.antt, so
+-- that a weaker contract is refused there; here all are listed.
+pub use Rattle.refusals.proofs.Unique.{number}
+pub use Rattle.float32.proofs.Unique.{is-finite, abs, over-cap, outside, off-circle, to-bits, from-bits, sqrt, sqrt-by-guess, square-root}
+pub use Rattle.tables.proofs.Unique.{schmidt-table, k-table}
+pub use Rattle.models.proofs.Unique.{known-epoch, epoch, error-model-by-epoch-year}
+pub use Rattle.geocentric.proofs.Unique.{geodetic-to-geocentric, radius-ratio}
+pub use Rattle.synthesis.proofs.Unique.{sum}
+pub use Rattle.field.proofs.Unique.{field, h, f, declination-warning, declination-uncertainty, grid-variation}
+pub use Rattle.allowance.proofs.Unique.{allowance}
+pub use Rattle.ffi.proofs.Unique.{njerumoy-field, njerumoy-allowance, njerumoy-sum, njerumoy-epoch, njerumoy-horizontal, njerumoy-total}
+pub use Rattle.ffi.proofs.Unique.{njerumoy-zone, njerumoy-declination-uncertainty, njerumoy-grid-variation, njerumoy-square-root}

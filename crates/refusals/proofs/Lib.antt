@@ -1,0 +1,3 @@
+-- `Laws` is what other crates cite; `Unique` says that the contract leaves one result.
+pub mod Laws
+pub mod Unique

@@ -1,0 +1,69 @@
+/* Njerumoy, with the set in one piece: a set's lists and its epoch year go together, so that who
+ * lends one names no year beside it. njerumoy_published.h has the two published sets in this form.
+ *
+ * Each function here only hands the members on, to the function of njerumoy.h that has its name
+ * without `_with`. What njerumoy.h says of that one holds here too: its answers, its refusals, and
+ * what the caller owes. These few lines are not proved; bindings/c/test.c compares the two.
+ */
+#ifndef NJERUMOY_SET_H
+#define NJERUMOY_SET_H
+
+#include "njerumoy.h"
+
+/* A coefficient set: the year that its lists are of, the four lists, and the length of each. */
+struct njerumoy_set {
+    int32_t epoch_year;
+    const float *g, *h, *g_dot, *h_dot;
+    size_t g_length, h_length, g_dot_length, h_dot_length;
+};
+
+/* Sine and cosine of one angle. */
+struct njerumoy_pair {
+    float sine, cosine;
+};
+
+/* A place: its height in metres, its geodetic latitude and its longitude. */
+struct njerumoy_place {
+    float height;
+    struct njerumoy_pair latitude, longitude;
+};
+
+static inline uint32_t njerumoy_field_with(const struct njerumoy_set *set,
+                                           struct njerumoy_place place, int32_t year,
+                                           int32_t day_of_year, float xyz[3], float errors[8],
+                                           size_t entry[2], int32_t years[2]) {
+    return njerumoy_field(place.height, place.latitude.sine, place.latitude.cosine,
+                          place.longitude.sine, place.longitude.cosine, year, day_of_year,
+                          set->epoch_year, set->g, set->g_length, set->h, set->h_length, set->g_dot,
+                          set->g_dot_length, set->h_dot, set->h_dot_length, xyz, errors, entry,
+                          years);
+}
+
+static inline uint32_t njerumoy_allowance_with(const struct njerumoy_set *set,
+                                               struct njerumoy_place place, int32_t year,
+                                               int32_t day_of_year, float allowances[3],
+                                               size_t entry[2], int32_t years[2]) {
+    return njerumoy_allowance(place.height, place.latitude.sine, place.latitude.cosine,
+                              place.longitude.sine, place.longitude.cosine, year, day_of_year,
+                              set->epoch_year, set->g, set->g_length, set->h, set->h_length,
+                              set->g_dot, set->g_dot_length, set->h_dot, set->h_dot_length,
+                              allowances, entry, years);
+}
+
+/* The offset counts from the set's epoch: njerumoy_epoch gives both. The set's year is not asked. */
+static inline uint32_t njerumoy_sum_with(const struct njerumoy_set *set,
+                                         struct njerumoy_pair colatitude,
+                                         struct njerumoy_pair longitude, float ratio, float offset,
+                                         float xyz[3], size_t entry[2]) {
+    return njerumoy_sum(colatitude.cosine, colatitude.sine, longitude.sine, longitude.cosine, ratio,
+                        offset, set->g, set->g_length, set->h, set->h_length, set->g_dot,
+                        set->g_dot_length, set->h_dot, set->h_dot_length, xyz, entry);
+}
+
+/* By the error figures of the set's own epoch year. xyz is what njerumoy_field_with wrote for it. */
+static inline uint32_t njerumoy_declination_uncertainty_with(const struct njerumoy_set *set,
+                                                             const float xyz[3], float *uncertainty) {
+    return njerumoy_declination_uncertainty(xyz[0], xyz[1], xyz[2], set->epoch_year, uncertainty);
+}
+
+#endif
