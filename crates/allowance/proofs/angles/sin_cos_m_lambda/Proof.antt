@@ -1,5 +1,5 @@
 -- `allowance::angles::sin_cos_m_lambda` meets its contract. The pair is that of order k. Assumes nothing.
-use mathlib.Core.Path.{_≡_}
+use mathlib.Core.Path.{_≡_, refl}
 use Prim.Native.Nat.{_≤_, _-_}
 use native.Mathlib.Numerals.{add-one}
 use native.Mathlib.Omega.{arith}
@@ -39,7 +39,7 @@ unfolding angle bounds
 loop-again c =
     let l = c .before in
     let s = l .before .before in
-    (search needs, rw (add-one, l .loop .inv .1, l .loop .inv .2, s .abs .ensures, l .before .abs2 .ensures), rw (add-one, l .loop .inv .1, l .loop .inv .2, s .abs .ensures, l .before .abs2 .ensures))
+    (search needs, rw (add-one, l .loop .inv .1, l .loop .inv .2, s .abs .ensures, l .before .abs2 .ensures) refl, rw (add-one, l .loop .inv .1, l .loop .inv .2, s .abs .ensures, l .before .abs2 .ensures) refl)
 
 returns : tie.Need-returns Inv-loop μ-loop
 returns c =

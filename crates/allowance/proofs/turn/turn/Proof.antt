@@ -1,4 +1,5 @@
 -- `allowance::turn::turn` meets its contract. Assumes nothing.
+use mathlib.Core.Path.{refl}
 use Rattle.field.specs.Turn.{turn-x, turn-z, sin-turn, cos-turn}
 use Rattle.allowance.specs.Bounds.{bounds}
 use Rattle.allowance.specs.Code.{turnedOf}
@@ -23,7 +24,7 @@ unfolding turnedOf turn-x turn-z sin-turn cos-turn bounds
 returns c =
     let d = c .before .before .before .before in
     let e = d .before .before in
-    rw (e .before .abs .ensures, e .abs2 .ensures, d .before .abs3 .ensures, d .abs4 .ensures)
+    rw (e .before .abs .ensures, e .abs2 .ensures, d .before .abs3 .ensures, d .abs4 .ensures) refl
 
 pub turn-spec : {M : Type 1} → statement M
 turn-spec = tie.close (tie.spec abs-requires abs-requires-2 abs-requires-3 abs-requires-4 returns)
