@@ -1,7 +1,7 @@
 -- The public contract leaves one result: the law is over what the kit makes of its `ensures`.
 use mathlib.Core.Path.{refl}
 use Rattle.allowance.proofs.Answers.{allowance-answer-one}
-use Rattle.refusals.specs.One.{OneResult}
+use Rattle.refusals.specs.OneResult.{OneResult}
 use Rattle.allowance.proofs.allowance as allowance-fn
 
 pub allowance : OneResult allowance-fn.Kinds.ps allowance-fn.Kinds.r allowance-fn.Reads.Post

@@ -8,11 +8,11 @@ use native.Mathlib.Omega.{arith}
 use mathlib.Core.Bool.{true, false}
 use lib.Dec.{T, lit≤, lit<}
 use lib.Pow.{pow-pos, pow-add}
-use lib.Ieee.{Float, nan, inf, fin, binary32, neg, add, sub, mul, div}
+use lib.Ieee.{Float, nan, inf, fin, binary32, neg, add, mul, div}
 use lib.Ieee.Fits.{down-pos}
 use lib.Ieee.Scale.{finite}
 use Rattle.exact.proofs.Frac.{Lower, Upper, by-le, lower-more, upper-more, upper-slack, lower-add, upper-add, lower-mul, upper-mul, lower-trans, upper-trans}
-use Rattle.exact.specs.Exact.{Exact, addE, mulE, negE, subE, invE, own}
+use Rattle.exact.specs.Exact.{Exact, addE, mulE, negE, invE, own}
 use Rattle.exact.proofs.Ops.{Is, Rounded, mul-rounded, add-rounded, div-rounded}
 
 unfoldable pub lo : ℕ → ℕ
@@ -205,11 +205,6 @@ near-neg {f = f} {x = x} m =
       is = is-neg f (m .p) (m .q) (m .d) (m .is);
       close = record { pos = c .pos; over = c .over; size = le-trans (le-of-eq (add-comm (x .minus) (x .plus))) (c .size); plo = c .qlo; phi = c .qhi; qlo = c .plo; qhi = c .phi };
     }
-
-pub near-sub : {k B E B' E' : ℕ} {f g : Float} {x y : Exact} → Near k B E f x → Near k B' E' g y → Fine k (B + B') (E + E')
-    → Near (suc k) (B + B') (E + E' + 1) (sub binary32 f g) (subE x y)
-unfolding sub subE
-near-sub m n fine = near-add m (near-neg n) fine
 
 -- a higher rank, a wider bound, more slack
 more-rank : {k B E p q d : ℕ} {x : Exact} (j : ℕ) → PartsNear k B E p q d x → PartsNear (k + j) B E p q d x

@@ -1,16 +1,16 @@
--- A rounded fraction of size at most B is of size at most B, for a B that the format holds; so is a quotient.
+-- A rounded fraction of size at most B is of size at most B, for a B that the format holds.
 use mathlib.Core.Path.{_≡_, refl, sym, ap, _∙_, subst}
-use Prim.Native.Nat.{ℕ, zero, suc, _+_, _*_, _^_, _≤_, _<_, zero-le}
-use native.Mathlib.Nat.{le-trans, le-of-eq, add-comm, mul-one, mul-pos, zero-mul, lt-irrefl}
+use Prim.Native.Nat.{ℕ, zero, suc, _*_, _^_, _≤_, _<_, zero-le}
+use native.Mathlib.Nat.{le-trans, le-of-eq, add-comm, mul-one, zero-mul}
 use mathlib.Core.Bool.{Bool, true, false, cond}
 use lib.IntN.{ℤ, pos}
-use lib.Dec.{T, ltb, eqb, eqb→eq, lit<, lit≤}
-use lib.Ieee.{Float, nan, inf, fin, binary32, up, down, unlike, odd, units, round, neg, div, le}
-use lib.Ieee.Fits.{down-pos, round-is}
+use lib.Dec.{T, ltb, lit<}
+use lib.Ieee.{Float, nan, inf, fin, binary32, up, down, odd, units, round, neg, le}
+use lib.Ieee.Fits.{round-is}
 use lib.Ieee.Order.{drop, kept, round-mono}
 use lib.Ieee.Scale.{finite}
 use Rattle.exact.specs.Exact.{own}
-use Rattle.exact.proofs.Sizes.{AtMost, own-size, own-over, size-between}
+use Rattle.exact.proofs.Sizes.{AtMost, size-between}
 
 abbrev Fit : ℕ → Float → Type 0
 Fit B x = T (finite x) × AtMost B x
@@ -57,25 +57,3 @@ round-fit-pos B m e num den b D h =
 pub round-fit : (B m : ℕ) (e : ℤ) (s : Bool) (num den : ℕ) → Holds B m e → 0 < den → num ≤ B * den → Fit B (round binary32 s num den)
 round-fit B m e false num den b D h = round-fit-pos B m e num den b D h
 round-fit B m e true num den b D h = subst (λ (z : Float). Fit B z) (sym (round-neg num den)) (fit-neg B (round binary32 false num den) (round-fit-pos B m e num den b D h))
-
--- a quotient by a float that is not zero
-pub quotient-fit : (B m : ℕ) (e : ℤ) (x y : Float) → Holds B m e → T (finite x) → T (finite y) → 0 < own y .plus + own y .minus
-    → (own x .plus + own x .minus) * own y .over ≤ B * ((own y .plus + own y .minus) * own x .over) → Fit B (div binary32 x y)
-unfolding div
-quotient-fit B m e nan y b fx fy N h = absurd fx
-quotient-fit B m e (inf s) y b fx fy N h = absurd fx
-quotient-fit B m e (fin s p a) nan b fx fy N h = absurd fy
-quotient-fit B m e (fin s p a) (inf t) b fx fy N h = absurd fy
-quotient-fit B m e (fin s p a) (fin t q c) b fx fy N h =
-    go (simp own-size at N) (simp (own-size, own-over) at h)
-  where
-    go : 0 < q * up c → p * up a * down c ≤ B * (q * up c * down a) → Fit B (cond (eqb q 0) (cond (eqb p 0) nan (inf (unlike s t))) (round binary32 (unlike s t) (p * up a * down c) (q * up c * down a)))
-    go N h = cut (eqb q 0) (λ (z : T (eqb q 0)). lt-irrefl 0 (subst (λ (x : ℕ). 0 < x) (ap (λ (x : ℕ). x * up c) (eqb→eq q 0 z) ∙ zero-mul (up c)) N))
-      where
-        cut : (k : Bool) → (T k → ⊥) → Fit B (cond k (cond (eqb p 0) nan (inf (unlike s t))) (round binary32 (unlike s t) (p * up a * down c) (q * up c * down a)))
-        cut true n = absurd (n tt)
-        cut false n = round-fit B m e (unlike s t) (p * up a * down c) (q * up c * down a) b (mul-pos N (down-pos a)) h
-
-holds-two : Holds 2 1 (pos 1)
-unfolding round
-holds-two = record { is = refl; at-most = lit≤ tt }

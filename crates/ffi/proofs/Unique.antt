@@ -1,7 +1,7 @@
 -- Every entry's contract leaves one number, and one content of each place that is lent for results: each law is over what the kit makes of the
 -- entry's `ensures`.
 use mathlib.Core.Path.{_≡_, sym, _∙_}
-use Rattle.refusals.specs.One.{OneResult}
+use Rattle.refusals.specs.OneResult.{OneResult}
 use Rattle.ffi.proofs.fields.njerumoy_field as field-fn
 use Rattle.ffi.proofs.fields.njerumoy_allowance as allowance-fn
 use Rattle.ffi.proofs.sums.njerumoy_sum as sum-fn

@@ -15,7 +15,7 @@ use Rattle.refusals.proofs.Laws.{passed, paper-one, no-answer, answered-one, to
 use Rattle.refusals.specs.declared.Verdict.{Verdict}
 use Rattle.refusals.specs.declared.Verdict.the-variants as Verdict
 use Rattle.refusals.specs.declared.Refusal.{Refusal}
-use Rattle.refusals.specs.declared.Refusal.the-variants.{Height, Latitude, Longitude, DayOfYear, OtherEpoch}
+use Rattle.refusals.specs.declared.Refusal.the-variants.{Latitude, Longitude, DayOfYear, OtherEpoch}
 use Rattle.models.specs.declared.epochs.EpochOffset.{EpochOffset}
 use Rattle.models.specs.declared.errors.WmmErrorModel.{WmmErrorModel}
 use Rattle.models.specs.Epochs.{unknownEpoch, wrongEpoch, dayExists, epochYear, epochSays, epochOffset, knownEpoch}
@@ -27,7 +27,7 @@ use Rattle.synthesis.specs.Sum.{Lent, lent, listsSay, sumSays, valueOf}
 use Rattle.field.specs.declared.strengths.GeomagneticField.{GeomagneticField}
 use Rattle.field.specs.declared.FieldAnswer.{FieldAnswer}
 use Rattle.field.specs.declared.FieldAnswer.the-variants as Answer
-use Rattle.field.specs.Field.{said, Asked, FieldAccepted, FieldClose, datedSays, field-x, field-y, field-z, fieldSays, handed, placeSays, recordOf, sameYear, shownSays, strengthsOf, wrongHeight}
+use Rattle.field.specs.Field.{said, Asked, FieldAccepted, FieldClose, datedSays, field-x, field-y, field-z, fieldSays, handed, outsideHeight, placeSays, recordOf, sameYear, shownSays, strengthsOf, wrongHeight}
 use Rattle.synthesis.proofs.Checked.{Listed, listed}
 use Rattle.field.proofs.Laws.{accepted-by, close, sum-says}
 use Rattle.synthesis.proofs.Carry.{carry-lists, lists-accept}
@@ -180,7 +180,7 @@ pub record Found (a : Asked) (e : EpochOffset) (v : GeomagneticField) : Type 0 w
 pub found : (a : Asked) (year day : ℤ) (v : GeomagneticField) → fieldSays a year day ≡ answered v → Found a (epochOffset year day) v
 unfolding fieldSays placeSays datedSays shownSays
 found a year day v h =
-    let p1 = passed (heightOk (a .height)) (Height (neg (ofBits binary32 0x3f800000)) (ofBits binary32 0x44548000)) _ v h in
+    let p1 = passed (heightOk (a .height)) outsideHeight _ v h in
     let p2 = passed (latitudeOk (a .sin-phi) (a .cos-phi)) Latitude _ v (p1 .1) in
     let p3 = passed (circle (a .sin-lambda) (a .cos-lambda)) Longitude _ v (p2 .1) in
     let q = after-answered (epochSays year day) (datedSays a) v (p3 .1) in
@@ -195,7 +195,7 @@ found a year day v h =
 pub day-found : (a : Asked) (year day : ℤ) (v : GeomagneticField) → fieldSays a year day ≡ answered v → epochSays year day ≡ answered (epochOffset year day)
 unfolding fieldSays placeSays
 day-found a year day v h =
-    let p1 = passed (heightOk (a .height)) (Height (neg (ofBits binary32 0x3f800000)) (ofBits binary32 0x44548000)) _ v h in
+    let p1 = passed (heightOk (a .height)) outsideHeight _ v h in
     let p2 = passed (latitudeOk (a .sin-phi) (a .cos-phi)) Latitude _ v (p1 .1) in
     let p3 = passed (circle (a .sin-lambda) (a .cos-lambda)) Longitude _ v (p2 .1) in
     let q = after-answered (epochSays year day) (datedSays a) v (p3 .1) in

@@ -4,17 +4,17 @@ use mathlib.Core.Bool.{true, not}
 use mathlib.Core.Logic.{⊎-elim}
 use lib.Dec.{T, lit≤}
 use lib.IntN.{ℤ}
-use lib.Ieee.{Float, binary32, ofBits, neg}
+use lib.Ieee.{Float}
 use lib.Ieee.Positive.{positive}
 use Rattle.refusals.specs.Paper.{Paper, answered}
 use Rattle.refusals.proofs.Laws.{passed}
-use Rattle.refusals.specs.declared.Refusal.the-variants.{Height, Latitude, Longitude}
+use Rattle.refusals.specs.declared.Refusal.the-variants.{Latitude, Longitude}
 use Rattle.models.specs.declared.epochs.EpochOffset.{EpochOffset}
 use Rattle.models.specs.Epochs.{epochSays, knownEpoch}
 use Rattle.models.specs.Dated.{Dated, dated}
 use Rattle.sums.proofs.Distance.{majored}
 use Rattle.field.specs.declared.strengths.GeomagneticField.{GeomagneticField}
-use Rattle.field.specs.Field.{FieldAccepted, Asked, FieldClose, field-x, field-y, field-z, handed, placeSays, recordOf, strengthsOf}
+use Rattle.field.specs.Field.{FieldAccepted, Asked, FieldClose, field-x, field-y, field-z, handed, outsideHeight, placeSays, recordOf, strengthsOf}
 use Rattle.exact.specs.Exact.{Exact}
 use Rattle.exact.proofs.Ranks.{Leaf, Nr}
 use Rattle.exact.proofs.Reach.{within}
@@ -144,7 +144,7 @@ module _ (a : Asked) (year day : ℤ) where
   unfolding placeSays
   accepted-at f e d =
       let v : GeomagneticField = recordOf (record { x = a .height; y = a .height; z = a .height }) (e .«epoch_year») in
-      let p1 = passed (heightOk (a .height)) (Height (neg (ofBits binary32 0x3f800000)) (ofBits binary32 0x44548000)) _ v (sym (f (answered v))) in
+      let p1 = passed (heightOk (a .height)) outsideHeight _ v (sym (f (answered v))) in
       let p2 = passed (latitudeOk (a .sin-phi) (a .cos-phi)) Latitude _ v (p1 .1) in
       let p3 = passed (circle (a .sin-lambda) (a .cos-lambda)) Longitude _ v (p2 .1) in
       accepted-by (p1 .0) (p2 .0) (p3 .0) e d

@@ -9,16 +9,15 @@ use lib.IntN.{pos}
 use lib.Ieee.{Float, nan, inf, fin, binary32, up, down, isNan, fits, ofBits, add, mul, le}
 use lib.Ieee.Fits.{add-fits, and-l, and-r, down-pos}
 use lib.Ieee.Order.{le-of-values}
-use lib.Ieee.Positive.{positive}
 use lib.Ieee.Scale.{finite}
-use Rattle.exact.specs.Exact.{own, mulE, addE}
+use Rattle.exact.specs.Exact.{own}
 use Rattle.exact.proofs.Near.{finite-is}
-use Rattle.exact.proofs.Ranks.{Abs, Nr, Leaf, leafA, addA, mulA, okA, fine-ok, nr-mul, nr-add}
+use Rattle.exact.proofs.Ranks.{Abs, Leaf, leafA, addA, mulA, okA, fine-ok, nr-mul, nr-add}
 use Rattle.exact.proofs.Reach.{near-size}
 use Rattle.exact.proofs.Sizes.{size-leaf}
-use Rattle.exact.specs.Tests.{abs, capped}
-use Rattle.float32.specs.Root.{sqrtOf, clear, IsRoot}
-use Rattle.float32.proofs.Signs.{clear-square, clear-add}
+use Rattle.exact.specs.Tests.{capped}
+use Rattle.float32.specs.Root.{clear, IsRoot}
+use Rattle.float32.proofs.Signs.{abs-clear, clear-square, clear-add}
 use Rattle.float32.proofs.Laws.{exact-root, root-kept, root-le}
 use Rattle.field.specs.declared.strengths.GeomagneticField.{GeomagneticField}
 use Rattle.field.specs.Strengths.{max-component, usable, hypotOf, hOf, fOf}
@@ -31,14 +30,6 @@ record Fit (k : ℕ) (f : Float) : Type 0 where
   is-finite : T (finite f)
   is-clear : T (clear f)
   most : T (le f (power k))
-
-abs-clear : (f : Float) → T (clear f) → abs f ≡ f
-unfolding clear
-abs-clear nan c = absurd c
-abs-clear (inf true) c = absurd c
-abs-clear (inf false) c = refl
-abs-clear (fin true m e) c = absurd c
-abs-clear (fin false m e) c = refl
 
 fit-leaf : {k : ℕ} {f : Float} → Fit k f → Leaf (2 ^ k) f
 fit-leaf {k} {f} t = size-leaf (2 ^ k) 1 (pos k) f (omega arith) (subst (λ (a : Float). T (le a (power k))) (sym (abs-clear f (t .is-clear))) (t .most))

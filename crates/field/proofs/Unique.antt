@@ -2,7 +2,7 @@
 use mathlib.Core.Path.{refl}
 use Rattle.field.proofs.Answers.{field-answer-one}
 use Rattle.field.proofs.StrengthLaws.{strength-one, zone-one, grid-one}
-use Rattle.refusals.specs.One.{OneResult}
+use Rattle.refusals.specs.OneResult.{OneResult}
 use Rattle.field.proofs.field as field-fn
 use Rattle.field.proofs.strengths.GeomagneticField.h as h-fn
 use Rattle.field.proofs.strengths.GeomagneticField.f as f-fn

@@ -9,6 +9,7 @@ use lib.Ieee.{Float, binary32, ofBits, neg}
 use Rattle.exact.specs.Tests.{circle}
 use Rattle.exact.specs.Within.{Within}
 use Rattle.refusals.specs.Paper.{Paper, answered, paper, unless, after}
+use Rattle.refusals.specs.declared.Refusal.{Refusal}
 use Rattle.refusals.specs.declared.Refusal.the-variants.{Height, Latitude, Longitude, OtherEpoch}
 use Rattle.models.specs.declared.epochs.EpochOffset.{EpochOffset}
 use Rattle.models.specs.Epochs.{wrongEpoch, knownEpoch, epochSays}
@@ -81,8 +82,12 @@ sameYear (negsuc a) (pos b) = false
 sameYear (negsuc a) (negsuc b) = eqb a b
 
 -- refusal 1, with the two limits of height in kilometres
+abbrev pub outsideHeight : Refusal
+outsideHeight = Height (neg (ofBits binary32 0x3f800000)) (ofBits binary32 0x44548000)
+
+-- refusal 1, as the paper says it
 abbrev pub wrongHeight : {A : Type 0} → Paper A
-wrongHeight = paper (Height (neg (ofBits binary32 0x3f800000)) (ofBits binary32 0x44548000))
+wrongHeight = paper outsideHeight
 
 -- refusals 1, 2 and 3 of a place, or p
 unfoldable pub placeSays : {A : Type 0} → (height sin-phi cos-phi sin-lambda cos-lambda : Float) → Paper A → Paper A

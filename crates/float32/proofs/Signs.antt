@@ -1,16 +1,20 @@
--- What a caller shows to take the root of a sum of squares: a square has its sign clear, and so has a sum of two such values. Assumes nothing.
+-- What a caller shows to take the root of a sum of squares: a square has its sign clear, and so has a sum of two such values. A value with its sign
+-- clear is its own size. Assumes nothing.
+use mathlib.Core.Path.{_≡_, refl}
 use Prim.Native.Nat.{ℕ, zero, suc, _+_, _*_, _^_}
 use mathlib.Core.Bool.{Bool, true, false, not, cond}
 use lib.Dec.{T, ltb}
 use lib.Ieee.{Float, nan, inf, fin, Format, isNan, add, mul, sum, round, units, odd, prec, low, emax}
-use Rattle.float32.specs.Root.{rootable, clear}
+use Rattle.exact.specs.Tests.{abs}
+use Rattle.float32.specs.Root.{clear}
 
-pub clear-rootable : (x : Float) → T (clear x) → T (rootable x)
-unfolding clear rootable
-clear-rootable nan p = p
-clear-rootable (inf s) p = p
-clear-rootable (fin true m e) p = absurd p
-clear-rootable (fin false m e) p = tt
+pub abs-clear : (x : Float) → T (clear x) → abs x ≡ x
+unfolding clear
+abs-clear nan c = refl
+abs-clear (inf true) c = absurd c
+abs-clear (inf false) c = refl
+abs-clear (fin true m e) c = absurd c
+abs-clear (fin false m e) c = refl
 
 clear-odd : (d q k l : ℕ) → T (clear (odd d false q k l))
 unfolding odd clear

@@ -1,7 +1,7 @@
 -- Every public contract leaves one result: each law is over what the kit makes of the function's `ensures`.
 use mathlib.Core.Path.{refl}
 use Rattle.float32.proofs.Answer.{root-answer-one}
-use Rattle.refusals.specs.One.{OneResult}
+use Rattle.refusals.specs.OneResult.{OneResult}
 use Rattle.float32.proofs.is_finite as is-finite-fn
 use Rattle.float32.proofs.abs as abs-fn
 use Rattle.float32.proofs.over_cap as over-cap-fn

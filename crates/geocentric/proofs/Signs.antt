@@ -16,7 +16,7 @@ use Rattle.exact.specs.Tests.{abs}
 use Rattle.exact.proofs.Sizes.{or-le, or-ge, own-size, own-over}
 use Rattle.exact.proofs.Range.{round-neg, round-fit, Holds}
 use Rattle.float32.specs.Root.{clear}
-use Rattle.float32.proofs.Signs.{clear-round}
+use Rattle.float32.proofs.Signs.{abs-clear, clear-round}
 use Rattle.geocentric.specs.Geo.{beyond-pole}
 use Rattle.geocentric.proofs.Fractions.{num-pos}
 use Rattle.geocentric.proofs.Steps.{sign, div-at}
@@ -44,14 +44,6 @@ clear-div (fin true m e) y f c p = absurd c
 clear-div (fin false m e) y f c p = rw (div-at (fin false m e) y tt p) (clear-round binary32 (m * up e * den y) (num y * down e))
 
 -- ---- the size of a rounded fraction
-abs-clear : (x : Float) → T (clear x) → abs x ≡ x
-unfolding clear
-abs-clear nan c = refl
-abs-clear (inf true) c = absurd c
-abs-clear (inf false) c = refl
-abs-clear (fin true m e) c = absurd c
-abs-clear (fin false m e) c = refl
-
 abs-neg : (x : Float) → abs (neg x) ≡ abs x
 unfolding neg
 abs-neg nan = refl

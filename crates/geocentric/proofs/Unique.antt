@@ -1,6 +1,6 @@
 -- Every public contract leaves one result: each law is over what the kit makes of the function's `ensures`.
 use mathlib.Core.Path.{refl}
-use Rattle.refusals.specs.One.{OneResult}
+use Rattle.refusals.specs.OneResult.{OneResult}
 use Rattle.geocentric.proofs.geodetic_to_geocentric as geodetic-to-geocentric-fn
 use Rattle.geocentric.proofs.radius_ratio as radius-ratio-fn
 

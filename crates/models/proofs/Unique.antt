@@ -1,7 +1,7 @@
 -- Every public contract leaves one result: each law is over what the kit makes of the function's `ensures`.
 use mathlib.Core.Path.{refl}
 use Rattle.models.specs.Laws.{epoch-answer-one, error-answer-one}
-use Rattle.refusals.specs.One.{OneResult}
+use Rattle.refusals.specs.OneResult.{OneResult}
 use Rattle.models.proofs.epochs.known_epoch as known-epoch-fn
 use Rattle.models.proofs.epochs.epoch as epoch-fn
 use Rattle.models.proofs.errors.error_model_by_epoch_year as error-model-by-epoch-year-fn

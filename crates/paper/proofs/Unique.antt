@@ -1,5 +1,5 @@
 -- Every public contract leaves one result: the law of each public function and of each entry for C, named after it. A law is over the contract that
--- the kit makes of the function's own `ensures` (`OneResult`, refusals/specs/One.antt). It stands in the function's crate, in proofs/Unique.antt, so
+-- the kit makes of the function's own `ensures` (`OneResult`, refusals/specs/OneResult.antt). It stands in the function's crate, in proofs/Unique.antt, so
 -- that a weaker contract is refused there; here all are listed.
 pub use Rattle.refusals.proofs.Unique.{number}
 pub use Rattle.float32.proofs.Unique.{is-finite, abs, over-cap, outside, off-circle, to-bits, from-bits, sqrt, sqrt-by-guess, square-root}

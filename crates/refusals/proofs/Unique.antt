@@ -1,6 +1,6 @@
 -- The public contract leaves one result: the law is over what the kit makes of its `ensures`.
 use mathlib.Core.Path.{refl}
-use Rattle.refusals.specs.One.{OneResult}
+use Rattle.refusals.specs.OneResult.{OneResult}
 use Rattle.refusals.proofs.number as number-fn
 
 pub number : OneResult number-fn.Kinds.ps number-fn.Kinds.r number-fn.Reads.Post

@@ -218,6 +218,38 @@ sum-answer-one a r s e f = go r s (e ∙ sym f)
     go (Answer.Refused k) (Answer.Refused l) h = ap Answer.Refused (paper-one k l h)
 
 -- ---- the ways to a verdict, and to an answer
+-- a test that the code asks the other way round
+pub passes : {r t : Bool} → r ≡ not t → r ≡ false → t ≡ true
+passes {r} {t} e h = not-false t (sym e ∙ h)
+
+pub fails : {r t : Bool} → r ≡ not t → r ≡ true → t ≡ false
+fails {r} {t} e h = not-true t (sym e ∙ h)
+
+-- the four numbers
+module _ (ct st sl cl ratio offset : Float) where
+  pub bad-colatitude : circle st ct ≡ false → (p : Paper Xyz) → paper Colatitude ≡ numbersSay ct st sl cl ratio offset p
+  unfolding numbersSay
+  bad-colatitude e p = rw e
+
+  module _ (e : circle st ct ≡ true) where
+    pub bad-longitude : circle sl cl ≡ false → (p : Paper Xyz) → paper Longitude ≡ numbersSay ct st sl cl ratio offset p
+    unfolding numbersSay
+    bad-longitude f p = rw (e, f)
+
+    module _ (f : circle sl cl ≡ true) where
+      pub bad-ratio : ratio-ok ratio ≡ false → (p : Paper Xyz) → paper Ratio ≡ numbersSay ct st sl cl ratio offset p
+      unfolding numbersSay
+      bad-ratio g p = rw (e, f, g)
+
+      module _ (g : ratio-ok ratio ≡ true) where
+        pub bad-offset : offset-ok offset ≡ false → (p : Paper Xyz) → paper Offset ≡ numbersSay ct st sl cl ratio offset p
+        unfolding numbersSay
+        bad-offset h p = rw (e, f, g, h)
+
+        pub good-numbers : offset-ok offset ≡ true → (p : Paper Xyz) → p ≡ numbersSay ct st sl cl ratio offset p
+        unfolding numbersSay
+        good-numbers h p = rw (e, f, g, h)
+
 pub too-short : (g h gd hd : List Float) → long g h gd hd ≡ false → (p : Paper Xyz) → paper Length ≡ listsSay g h gd hd p
 unfolding listsSay
 too-short g h gd hd e p = rw e

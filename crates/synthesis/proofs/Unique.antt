@@ -1,7 +1,7 @@
 -- The public contract leaves one result: the law is over what the kit makes of its `ensures`.
 use mathlib.Core.Path.{refl}
 use Rattle.synthesis.proofs.Checked.{sum-answer-one}
-use Rattle.refusals.specs.One.{OneResult}
+use Rattle.refusals.specs.OneResult.{OneResult}
 use Rattle.synthesis.proofs.sum as sum-fn
 
 pub sum : OneResult sum-fn.Kinds.ps sum-fn.Kinds.r sum-fn.Reads.Post

@@ -1,4 +1,4 @@
--- What each function of the code computes, in the recurrences' terms. Definitions only. The entry's contract cites `lent` alone.
+-- What each function of the code computes, in the recurrences' terms. Definitions only. The entry's contract cites none of them.
 use mathlib.Core.Path.{_≡_}
 use mathlib.Core.List.{List, [], _∷_}
 use Prim.Native.Nat.{ℕ, zero, suc, _+_, _*_, _-_, _/_, _<_, _≤_}

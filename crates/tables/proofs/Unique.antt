@@ -1,6 +1,6 @@
 -- Every public contract leaves one result: each law is over what the kit makes of the function's `ensures`.
 use mathlib.Core.Path.{refl}
-use Rattle.refusals.specs.One.{OneResult}
+use Rattle.refusals.specs.OneResult.{OneResult}
 use Rattle.tables.proofs.schmidt_table as schmidt-table-fn
 use Rattle.tables.proofs.k_table as k-table-fn
 

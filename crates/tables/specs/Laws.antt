@@ -1,5 +1,5 @@
 -- The table statement: one computed test a table, and one law that turns it into the rule at each entry, over the degree limit.
-use mathlib.Core.Path.{_≡_, refl, sym, _∙_, ap, subst}
+use mathlib.Core.Path.{_≡_, refl, _∙_, ap, subst}
 use mathlib.Core.Bool.{Bool, true, false, _&&_}
 use mathlib.Core.List.{List, [], _∷_, map}
 use Prim.Native.Nat.{ℕ, zero, suc, _+_, _-_, _*_, _^_, _<_}
@@ -7,7 +7,7 @@ use native.Mathlib.Nat.{add-zero, zero-add, add-suc, suc-add, le-of-suc-le-suc, 
 use lib.Dec.{T, eqb, leb, eqb→eq, ltb, ltb→lt}
 use lib.IntN.{ℤ, pos}
 use lib.ListN.{length, getD}
-use lib.Ieee.{Float, nan, binary32, ofBits, toBits, round, fits}
+use lib.Ieee.{nan, binary32, ofBits, toBits, round, fits}
 use lib.Ieee.Bits.{ofBits-toBits}
 use lib.Ieee.Fits.{round-fits, cond-fits, and-l, and-r}
 use Rattle.tables.specs.Degree.{N-MAX, N-LEGENDRE, place}
@@ -103,7 +103,3 @@ schmidt-entry i h = getD-map (ofBits binary32) schmidtBits 0 nan i h
 pub k-entry : (i : ℕ) → i < N-LEGENDRE → getD kTable i nan ≡ kAt i
 unfolding kTable kAt kBits
 k-entry i h = getD-map (ofBits binary32) kBits 0 nan i h
-
--- the contract of a table allows one result
-pub one-table : (t r s : List Float) → r ≡ t → s ≡ t → r ≡ s
-one-table t r s e f = e ∙ sym f

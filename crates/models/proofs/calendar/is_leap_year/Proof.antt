@@ -1,10 +1,12 @@
 -- `models::calendar::is_leap_year` meets its contract: each remainder is 0 exactly where the number divides the year. Assumes nothing.
-use mathlib.Core.Path.{refl, sym, _∙_}
+use mathlib.Core.Path.{_≡_, refl, sym, _∙_}
+use mathlib.Core.Bool.{true}
 use Prim.Native.Nat.{ℕ}
 use borrow.Author.Needs.{needs}
 use borrow.Author.Tests.{eq-eqb, ne-eqb}
 use lib.IntN.{ℤ, pos}
-use lib.Signed.{quotZ}
+use lib.Dec.{eqb}
+use lib.Signed.{quotZ, remZ}
 use mir.Syntax.{w32}
 use mir.Val.{SFits, ofZ, toZ}
 use mir.ValLaws.{toZ-ofZ}
@@ -31,7 +33,8 @@ returns c =
     let s = c .before .before in
     let b4 = divides-bits (s .args .year) 4 (s .fits .year) in
     let b100 = divides-bits (s .args .year) 100 (s .fits .year) in
-    simp (sym b4 ∙ eq-eqb _ _ (c .before .if1 .taken), b100, sym b100 ∙ ne-eqb _ _ (c .if2 .taken)) refl
+    let h4 : eqb (ofZ w32 (remZ (toZ w32 (ofZ w32 (s .args .year))) (pos 4))) 0 ≡ true = eq-eqb _ _ (c .before .if1 .taken) in
+    simp (sym b4 ∙ h4, b100, sym b100 ∙ ne-eqb _ _ (c .if2 .taken)) refl
 
 returns-2 : tie.Need-returns-2
 unfolding leapYear

@@ -44,7 +44,9 @@ known c = c .known-epoch .ensures ∙ ap knownEpoch (epoch-year (c .before))
 
 -- ---- what each test that passed says
 not-low : (c : tie.Else1) → ltZ (c .before .before .args .day-of-year) (pos 1) ≡ false
-not-low c = sym (low (c .before .before)) ∙ c .if1 .left
+not-low c =
+    let h : ltZ (toZ w32 (ofZ w32 (c .before .before .args .day-of-year))) (pos 1) ≡ false = c .if1 .left in
+    sym (low (c .before .before)) ∙ h
 
 not-high : (c : tie.Else2) → ltZ (pos (daysInYear (c .before .before .before .args .year))) (c .before .before .before .args .day-of-year) ≡ false
 not-high c = sym (high (c .before .before)) ∙ c .if2 .left
