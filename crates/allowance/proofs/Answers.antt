@@ -11,7 +11,7 @@ use Rattle.geocentric.specs.declared.Geocentric.{Geocentric}
 use Rattle.geocentric.specs.Geo.{geocentricOf, ratioOf, ratioTo}
 use Rattle.synthesis.specs.declared.Xyz.{Xyz}
 use Rattle.synthesis.specs.Sum.{lent}
-use Rattle.field.specs.declared.strengths.GeomagneticField.{GeomagneticField}
+use Rattle.strengths.specs.declared.GeomagneticField.{GeomagneticField}
 use Rattle.field.specs.Field.{Asked, field-x, field-y, field-z, fieldSays, handed}
 use Rattle.field.proofs.Answers.{after-answered, day-found, found}
 use Rattle.allowance.specs.declared.Allowances.{Allowances}

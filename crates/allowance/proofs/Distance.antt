@@ -12,8 +12,8 @@ use Rattle.exact.specs.Within.{FINE, Within, distance}
 use Rattle.models.specs.declared.epochs.EpochOffset.{EpochOffset}
 use Rattle.models.specs.Epochs.{epochOffset}
 use Rattle.sums.specs.Arithmetic.{rounded, unrounded}
-use Rattle.synthesis.proofs.Checked.{Listed}
-use Rattle.field.specs.declared.strengths.GeomagneticField.{GeomagneticField}
+use Rattle.lists.proofs.Checked.{Listed}
+use Rattle.strengths.specs.declared.GeomagneticField.{GeomagneticField}
 use Rattle.field.specs.Field.{FieldAccepted, Asked, field-x, field-y, field-z, fieldSays, recordOf, strengthsOf}
 use Rattle.field.proofs.Laws.{close}
 use Rattle.field.proofs.Answers.{found}

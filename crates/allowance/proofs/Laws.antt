@@ -12,7 +12,7 @@ use Rattle.sums.specs.Arithmetic.{sizes}
 use Rattle.sums.proofs.Terms.{angS, legS, powS}
 use Rattle.sums.proofs.Near.{accA, eastA}
 use Rattle.field.proofs.Ceiling.{field-y-size, resized}
-use Rattle.synthesis.proofs.Checked.{Listed}
+use Rattle.lists.proofs.Checked.{Listed}
 use Rattle.field.specs.Field.{FieldAccepted, Asked, field-x, field-y, field-z}
 use Rattle.field.proofs.Laws.{field-x-image, field-x-near, field-y-image, field-y-near, field-z-image, field-z-near}
 use Rattle.allowance.specs.Bounds.{Covers, absolutes, allowed, bounds}

@@ -1,8 +1,8 @@
 -- What a returned 0 means: there is an answer. So Field's promised distance holds of what `njerumoy_field` has written. Assumes nothing.
 use mathlib.Core.Path.{_≡_, refl, sym, ap, _∙_}
 use mathlib.Core.Bool.{Bool, true, false}
-use mathlib.Core.List.{List, [], _∷_}
-use Prim.Native.Nat.{ℕ, suc}
+use mathlib.Core.List.{List}
+use Prim.Native.Nat.{ℕ}
 use native.Mathlib.Omega.{arith}
 use lib.IntN.{ℤ}
 use lib.Ieee.{Float}
@@ -11,17 +11,17 @@ use denote.Ref.{RefT, now}
 use denote.Triple.Clauses.{atExit}
 use borrow.Fn.Kinds.{Dens, endedOf}
 use Rattle.refusals.specs.declared.Refusal.{Refusal}
-use Rattle.refusals.specs.declared.Refusal.the-variants.{Height, Latitude, Longitude, DayOfYear, Length, Coefficient, OtherEpoch}
-use Rattle.refusals.specs.Paper.{Paper, answered, refused, paper, unless, after}
+use Rattle.refusals.specs.declared.Refusal.the-variants.{DayOfYear, OtherEpoch}
+use Rattle.refusals.specs.Paper.{Paper, answered, refused, paper, unless, after, told}
+use Rattle.refusals.specs.declared.Verdict.{Verdict}
+use Rattle.refusals.specs.declared.Verdict.the-variants as Verdict
 use Rattle.refusals.proofs.Laws.{not-zero}
-use Rattle.exact.specs.Tests.{circle, capped}
-use Rattle.geocentric.specs.Geo.{heightOk, latitudeOk}
 use Rattle.models.specs.Epochs.{unknownEpoch, dayExists, epochYear, knownEpoch, epochOffset, epochSays}
-use Rattle.synthesis.specs.Sum.{entriesSay, long, listsSay}
+use Rattle.lists.specs.Lists.{listsVerdict}
 use Rattle.field.specs.declared.FieldAnswer.the-variants as Answer
-use Rattle.field.specs.declared.strengths.GeomagneticField.{GeomagneticField}
-use Rattle.field.specs.Field.{Asked, asked, sameYear, placeSays, shownSays, datedSays, fieldSays, FieldClose}
-use Rattle.field.proofs.Answers.{answer-close}
+use Rattle.strengths.specs.declared.GeomagneticField.{GeomagneticField}
+use Rattle.field.specs.Field.{Asked, asked, sameYear, shownSays, datedSays, fieldSays, FieldClose}
+use Rattle.field.proofs.Answers.{answer-close, of-place}
 use Rattle.ffi.specs.Told.{numberOf, result, fieldFloats, errorFloats}
 use Rattle.ffi.proofs.fields.njerumoy_field.Kinds as kinds
 use Rattle.ffi.proofs.fields.njerumoy_field.Reads as reads
@@ -39,29 +39,22 @@ module _ {A : Type 0} where
   behind-test true k p h = h
   behind-test false k p h = λ e. absurd (not-zero k (sym e))
 
-  behind-entries : (cap : Float) (k i : ℕ) (l : List Float) (p : Paper A) → Answers p → Answers (entriesSay cap k i l p)
-  unfolding entriesSay
-  behind-entries cap k i [] p h = h
-  behind-entries cap k i (x ∷ l) p h = behind-test (capped cap x) (Coefficient k i) _ (behind-entries cap k (suc i) l p h)
-
-  behind-lists : (g h gd hd : List Float) (p : Paper A) → Answers p → Answers (listsSay g h gd hd p)
-  unfolding listsSay
-  behind-lists g h gd hd p t = behind-test (long g h gd hd) Length _ (behind-entries _ _ _ g _ (behind-entries _ _ _ h _ (behind-entries _ _ _ gd _ (behind-entries _ _ _ hd p t))))
+  behind-verdict : (u : Verdict) (p : Paper A) → Answers p → Answers (told u p)
+  behind-verdict Verdict.Accepted p h = h
+  behind-verdict (Verdict.Refused k) p h = λ e. absurd (not-zero k (sym e))
 
 behind-answer : {A B : Type 0} (p : Paper A) (f : A → Paper B) → Answers p → ((a : A) → Answers (f a)) → Answers (after p f)
 behind-answer (answered a) f h t = t a
 behind-answer (refused n x z) f h t = λ e. absurd (let q = h e in let o : _≡_ {A = ℕ} 0 1 = cc in omega arith)
 
 field-answers : (a : Asked) (year day : ℤ) → Answers (fieldSays a year day)
-unfolding fieldSays placeSays datedSays shownSays epochSays
+unfolding fieldSays datedSays shownSays epochSays
 field-answers a year day =
-    behind-test (heightOk (a .height)) (Height _ _) _
-    (behind-test (latitudeOk (a .sin-phi) (a .cos-phi)) Latitude _
-    (behind-test (circle (a .sin-lambda) (a .cos-lambda)) Longitude _
+    behind-verdict (of-place a) _
     (behind-answer (epochSays year day) (datedSays a)
     (behind-test (dayExists year day) DayOfYear _ (behind-test (knownEpoch (epochYear year)) unknownEpoch _ (answers _)))
     (λ e. behind-test (knownEpoch (a .set-epoch)) unknownEpoch _
-    (behind-lists (a .g) (a .h) (a .g-dot) (a .h-dot) _ (behind-test (sameYear (a .set-epoch) (e .«epoch_year»)) (OtherEpoch _ _) _ (answers _)))))))
+    (behind-verdict (listsVerdict (a .g) (a .h) (a .g-dot) (a .h-dot)) _ (behind-test (sameYear (a .set-epoch) (e .«epoch_year»)) (OtherEpoch _ _) _ (answers _)))))
 
 -- ---- the entry
 -- whatever is passed: if it returns 0, what it has written are the floats of one record, whose X, Y and Z lie within the promised distance

@@ -17,7 +17,7 @@ use Rattle.refusals.specs.declared.Refusal.the-variants.{Coefficient, OtherEpoc
 use Rattle.refusals.specs.Paper.{Paper, line, paper}
 use Rattle.refusals.proofs.Refusal.{the-type}
 use Rattle.refusals.proofs.Laws.{case, same-case}
-use Rattle.field.specs.Grid.{Variation}
+use Rattle.strengths.specs.Grid.{Variation}
 use Rattle.ffi.specs.Told.{numberOf, result, entryPlace, yearsPlace, variationPlace}
 
 -- ---- where a call says p, and p is the refusal k

@@ -6,12 +6,12 @@ use Rattle.ffi.proofs.fields.njerumoy_field as field-fn
 use Rattle.ffi.proofs.fields.njerumoy_allowance as allowance-fn
 use Rattle.ffi.proofs.sums.njerumoy_sum as sum-fn
 use Rattle.ffi.proofs.days.njerumoy_epoch as epoch-fn
-use Rattle.ffi.proofs.strengths.njerumoy_horizontal as horizontal-fn
-use Rattle.ffi.proofs.strengths.njerumoy_total as total-fn
-use Rattle.ffi.proofs.strengths.njerumoy_zone as zone-fn
-use Rattle.ffi.proofs.strengths.njerumoy_declination_uncertainty as declination-uncertainty-fn
-use Rattle.ffi.proofs.strengths.njerumoy_grid_variation as grid-variation-fn
-use Rattle.ffi.proofs.strengths.njerumoy_square_root as square-root-fn
+use Rattle.ffi.proofs.records.njerumoy_horizontal as horizontal-fn
+use Rattle.ffi.proofs.records.njerumoy_total as total-fn
+use Rattle.ffi.proofs.records.njerumoy_zone as zone-fn
+use Rattle.ffi.proofs.records.njerumoy_declination_uncertainty as declination-uncertainty-fn
+use Rattle.ffi.proofs.records.njerumoy_grid_variation as grid-variation-fn
+use Rattle.ffi.proofs.records.njerumoy_square_root as square-root-fn
 
 -- what the contract says of the one and of the other is the same thing
 same : {A : Type 0} {t x y : A} → x ≡ t → y ≡ t → x ≡ y

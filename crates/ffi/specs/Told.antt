@@ -10,9 +10,9 @@ use Rattle.refusals.specs.Paper.{Paper, answered, refused}
 use Rattle.models.specs.declared.epochs.EpochOffset.{EpochOffset}
 use Rattle.models.specs.declared.errors.WmmErrorModel.{WmmErrorModel}
 use Rattle.synthesis.specs.declared.Xyz.{Xyz}
-use Rattle.field.specs.declared.strengths.GeomagneticField.{GeomagneticField}
-use Rattle.field.specs.Strengths.{Warning, blackout, caution, no-zone}
-use Rattle.field.specs.Grid.{Variation, degrees, absent}
+use Rattle.strengths.specs.declared.GeomagneticField.{GeomagneticField}
+use Rattle.strengths.specs.Strengths.{Warning, blackout, caution, no-zone}
+use Rattle.strengths.specs.Grid.{Variation, degrees, absent}
 use Rattle.allowance.specs.declared.Allowances.{Allowances}
 
 -- ---- of any answer

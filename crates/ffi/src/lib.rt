@@ -3,6 +3,6 @@
 // has that result. None has a `requires`: whatever numbers come, the call ends and says so.
 mod days;
 mod fields;
+mod records;
 mod refuse;
-mod strengths;
 mod sums;

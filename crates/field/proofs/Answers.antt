@@ -11,7 +11,7 @@ use mir.Syntax.{w32}
 use mir.Val.{SFits, ofZ, toZ}
 use mir.ValLaws.{toZ-ofZ}
 use Rattle.refusals.specs.Paper.{Paper, answered, refused, paper, unless, after, told}
-use Rattle.refusals.proofs.Laws.{passed, paper-one, no-answer, answered-one, told-refused, told-accepted}
+use Rattle.refusals.proofs.Laws.{passed, paper-one, no-answer, answered-one, told-answered, told-carry}
 use Rattle.refusals.specs.declared.Verdict.{Verdict}
 use Rattle.refusals.specs.declared.Verdict.the-variants as Verdict
 use Rattle.refusals.specs.declared.Refusal.{Refusal}
@@ -21,16 +21,16 @@ use Rattle.models.specs.declared.errors.WmmErrorModel.{WmmErrorModel}
 use Rattle.models.specs.Epochs.{unknownEpoch, wrongEpoch, dayExists, epochYear, epochSays, epochOffset, knownEpoch}
 use Rattle.models.specs.Errors.{errorModel, errorSays}
 use Rattle.geocentric.specs.declared.Geocentric.{Geocentric}
-use Rattle.geocentric.specs.Geo.{geocentricOf, ratioTo, ratioOf, heightOk, latitudeOk}
+use Rattle.geocentric.specs.Geo.{geocentricOf, ratioTo, ratioOf, heightOk}
 use Rattle.synthesis.specs.declared.Xyz.{Xyz}
-use Rattle.synthesis.specs.Sum.{Lent, lent, listsSay, sumSays, valueOf}
-use Rattle.field.specs.declared.strengths.GeomagneticField.{GeomagneticField}
+use Rattle.lists.specs.Lists.{listsVerdict}
+use Rattle.synthesis.specs.Sum.{Lent, lent, sumSays, valueOf}
+use Rattle.strengths.specs.declared.GeomagneticField.{GeomagneticField}
 use Rattle.field.specs.declared.FieldAnswer.{FieldAnswer}
 use Rattle.field.specs.declared.FieldAnswer.the-variants as Answer
-use Rattle.field.specs.Field.{said, Asked, FieldAccepted, FieldClose, datedSays, field-x, field-y, field-z, fieldSays, handed, outsideHeight, placeSays, recordOf, sameYear, shownSays, strengthsOf, wrongHeight}
-use Rattle.synthesis.proofs.Checked.{Listed, listed}
-use Rattle.field.proofs.Laws.{accepted-by, close, sum-says}
-use Rattle.synthesis.proofs.Carry.{carry-lists, lists-accept}
+use Rattle.field.specs.Field.{said, Asked, FieldAccepted, FieldClose, datedSays, field-x, field-y, field-z, fieldSays, handed, outsideHeight, placeVerdict, recordOf, sameYear, shownSays, strengthsOf}
+use Rattle.lists.proofs.Checked.{Listed, listed}
+use Rattle.field.proofs.Laws.{accepted-at, close, sum-says}
 use Rattle.exact.specs.Tests.{circle}
 use Rattle.field.specs.Turn.{turned}
 
@@ -39,28 +39,28 @@ use Rattle.field.specs.Turn.{turned}
 abbrev front : Float
 front = neg (ofBits binary32 0x35800000)
 
-module _ (h s c sl cl : Float) (p : Paper GeomagneticField) where
-  pub bad-height : heightOk h ≡ false → wrongHeight ≡ placeSays h s c sl cl p
-  unfolding placeSays
+module _ (h s c sl cl : Float) where
+  pub bad-height : heightOk h ≡ false → Verdict.Refused outsideHeight ≡ placeVerdict h s c sl cl
+  unfolding placeVerdict
   bad-height e = rw e
 
   module _ (e : heightOk h ≡ true) where
-    pub bad-latitude : circle s c ≡ false → paper Latitude ≡ placeSays h s c sl cl p
-    unfolding placeSays
+    pub bad-latitude : circle s c ≡ false → Verdict.Refused Latitude ≡ placeVerdict h s c sl cl
+    unfolding placeVerdict
     bad-latitude f = rw (e, f)
 
     module _ (f : circle s c ≡ true) where
-      pub behind : le front c ≡ false → paper Latitude ≡ placeSays h s c sl cl p
-      unfolding placeSays
+      pub behind : le front c ≡ false → Verdict.Refused Latitude ≡ placeVerdict h s c sl cl
+      unfolding placeVerdict
       behind g = rw (e, f, g)
 
       module _ (g : le front c ≡ true) where
-        pub bad-longitude : circle sl cl ≡ false → paper Longitude ≡ placeSays h s c sl cl p
-        unfolding placeSays
+        pub bad-longitude : circle sl cl ≡ false → Verdict.Refused Longitude ≡ placeVerdict h s c sl cl
+        unfolding placeVerdict
         bad-longitude i = rw (e, f, g, i)
 
-        pub good-place : circle sl cl ≡ true → p ≡ placeSays h s c sl cl p
-        unfolding placeSays
+        pub good-place : circle sl cl ≡ true → Verdict.Accepted ≡ placeVerdict h s c sl cl
+        unfolding placeVerdict
         good-place i = rw (e, f, g, i)
 
 -- ---- the set's year against the day's
@@ -122,41 +122,45 @@ module _ (a : Asked) (e : EpochOffset) where
     unfolding handed geocentricOf ratioOf
     handed-is = rw (eq, ep)
 
-    says : sumSays asks ≡ listsSay (a .g) (a .h) (a .g-dot) (a .h-dot) (answered (valueOf (handed a e)))
+    abbrev of-lists : Verdict
+    of-lists = listsVerdict (a .g) (a .h) (a .g-dot) (a .h-dot)
+
+    says : sumSays asks ≡ told of-lists (answered (valueOf (handed a e)))
     says = ap sumSays handed-is ∙ sum-says a e w
 
-    after-set : listsSay (a .g) (a .h) (a .g-dot) (a .h-dot) (shownSays (a .set-epoch) (e .«epoch_year») (strengthsOf a e)) ≡ datedSays a e
+    after-set : told of-lists (shownSays (a .set-epoch) (e .«epoch_year») (strengthsOf a e)) ≡ datedSays a e
     unfolding datedSays
     after-set = rw n
 
     pub lists-refused : (k : Refusal) → paper k ≡ sumSays asks → paper k ≡ datedSays a e
-    lists-refused k h = carry-lists (a .g) (a .h) (a .g-dot) (a .h-dot) k (valueOf (handed a e)) (shownSays (a .set-epoch) (e .«epoch_year») (strengthsOf a e)) (h ∙ says) ∙ after-set
+    lists-refused k h = told-carry of-lists k (valueOf (handed a e)) (shownSays (a .set-epoch) (e .«epoch_year») (strengthsOf a e)) (h ∙ says) ∙ after-set
 
     pub strengths-shown : (v : Xyz) → answered v ≡ sumSays asks → (u : Xyz) → u ≡ turned v p (a .sin-phi) (a .cos-phi) → (r : Paper GeomagneticField) → r ≡ shownSays (a .set-epoch) (e .«epoch_year») u → r ≡ datedSays a e
     unfolding valueOf turned field-x field-y field-z handed geocentricOf
     strengths-shown v h u eu r er =
-        let l = listed (a .g) (a .h) (a .g-dot) (a .h-dot) (answered (valueOf (handed a e))) v (sym (h ∙ says)) in
+        let l = told-answered of-lists (answered (valueOf (handed a e))) v (sym (h ∙ says)) in
         let ev : v ≡ valueOf (handed a e) = sym (answered-one (valueOf (handed a e)) v (l .1)) in
         let es : u ≡ strengthsOf a e = eu ∙ rw (ev, ep) in
-        er ∙ ap (shownSays (a .set-epoch) (e .«epoch_year»)) es ∙ sym (lists-accept (a .g) (a .h) (a .g-dot) (a .h-dot) (shownSays (a .set-epoch) (e .«epoch_year») (strengthsOf a e)) (l .0)) ∙ after-set
+        let shows = shownSays (a .set-epoch) (e .«epoch_year») in
+        er ∙ ap shows es ∙ ap (λ (t : Verdict). told t (shows (strengthsOf a e))) (sym (l .0)) ∙ after-set
 
 -- ---- Field
-module _ (a : Asked) (u : Verdict) (t : (p : Paper GeomagneticField) → told u p ≡ placeSays (a .height) (a .sin-phi) (a .cos-phi) (a .sin-lambda) (a .cos-lambda) p) where
-  pub place-refused : (year day : ℤ) (k : Refusal) → u ≡ Verdict.Refused k → paper k ≡ fieldSays a year day
-  unfolding fieldSays
-  place-refused year day k e = told-refused u k _ t e (after (epochSays year day) (datedSays a))
+abbrev pub of-place : Asked → Verdict
+of-place a = placeVerdict (a .height) (a .sin-phi) (a .cos-phi) (a .sin-lambda) (a .cos-lambda)
 
-  pub place-passed : u ≡ Verdict.Accepted → (q : Paper GeomagneticField) → q ≡ placeSays (a .height) (a .sin-phi) (a .cos-phi) (a .sin-lambda) (a .cos-lambda) q
-  place-passed e q = told-accepted u _ t e q
-
-module _ (a : Asked) (year day : ℤ) (f : (q : Paper GeomagneticField) → q ≡ placeSays (a .height) (a .sin-phi) (a .cos-phi) (a .sin-lambda) (a .cos-lambda) q) where
-  pub day-refused : (k : Refusal) → paper k ≡ epochSays year day → paper k ≡ fieldSays a year day
+module _ (a : Asked) (year day : ℤ) where
+  pub place-refused : (k : Refusal) → of-place a ≡ Verdict.Refused k → paper k ≡ fieldSays a year day
   unfolding fieldSays
-  day-refused k h = f (paper k) ∙ ap (placeSays (a .height) (a .sin-phi) (a .cos-phi) (a .sin-lambda) (a .cos-lambda)) (ap (λ (q : Paper EpochOffset). after q (datedSays a)) h)
+  place-refused k e = rw e
 
-  pub day-answered : (e : EpochOffset) → answered e ≡ epochSays year day → (r : Paper GeomagneticField) → r ≡ datedSays a e → r ≡ fieldSays a year day
-  unfolding fieldSays
-  day-answered e h r er = f r ∙ ap (placeSays (a .height) (a .sin-phi) (a .cos-phi) (a .sin-lambda) (a .cos-lambda)) (er ∙ ap (λ (q : Paper EpochOffset). after q (datedSays a)) h)
+  module _ (f : of-place a ≡ Verdict.Accepted) where
+    pub day-refused : (k : Refusal) → paper k ≡ epochSays year day → paper k ≡ fieldSays a year day
+    unfolding fieldSays
+    day-refused k h = rw f (ap (λ (q : Paper EpochOffset). after q (datedSays a)) h)
+
+    pub day-answered : (e : EpochOffset) → answered e ≡ epochSays year day → (r : Paper GeomagneticField) → r ≡ datedSays a e → r ≡ fieldSays a year day
+    unfolding fieldSays
+    day-answered e h r er = rw f (er ∙ ap (λ (q : Paper EpochOffset). after q (datedSays a)) h)
 
 -- ---- what an answer says
 pub after-answered : {A B : Type 0} (p : Paper A) (f : A → Paper B) (b : B) → after p f ≡ answered b → (x : A) × ((p ≡ answered x) × (f x ≡ answered b))
@@ -178,27 +182,23 @@ pub record Found (a : Asked) (e : EpochOffset) (v : GeomagneticField) : Type 0 w
   pub is : recordOf (strengthsOf a e) (e .«epoch_year») ≡ v
 
 pub found : (a : Asked) (year day : ℤ) (v : GeomagneticField) → fieldSays a year day ≡ answered v → Found a (epochOffset year day) v
-unfolding fieldSays placeSays datedSays shownSays
+unfolding fieldSays datedSays shownSays
 found a year day v h =
-    let p1 = passed (heightOk (a .height)) outsideHeight _ v h in
-    let p2 = passed (latitudeOk (a .sin-phi) (a .cos-phi)) Latitude _ v (p1 .1) in
-    let p3 = passed (circle (a .sin-lambda) (a .cos-lambda)) Longitude _ v (p2 .1) in
-    let q = after-answered (epochSays year day) (datedSays a) v (p3 .1) in
+    let p = told-answered (of-place a) _ v h in
+    let q = after-answered (epochSays year day) (datedSays a) v (p .1) in
     let e = q .0 in
-    let p4 = passed (knownEpoch (a .set-epoch)) unknownEpoch _ v (q .1 .1) in
-    let l = listed (a .g) (a .h) (a .g-dot) (a .h-dot) _ v (p4 .1) in
-    let p5 = passed (sameYear (a .set-epoch) (e .«epoch_year»)) (OtherEpoch (e .«epoch_year») (a .set-epoch)) _ v (l .1) in
+    let s = passed (knownEpoch (a .set-epoch)) unknownEpoch _ v (q .1 .1) in
+    let l = told-answered (listsVerdict (a .g) (a .h) (a .g-dot) (a .h-dot)) _ v (s .1) in
+    let y = passed (sameYear (a .set-epoch) (e .«epoch_year»)) (OtherEpoch (e .«epoch_year») (a .set-epoch)) _ v (l .1) in
     subst (λ (x : EpochOffset). Found a x v) (sym (epoch-is year day e (q .1 .0)))
-    (record { accepted = accepted-by a year day (p1 .0) (p2 .0) (p3 .0) e (q .1 .0); lists = l .0; same = p5 .0; is = answered-one (recordOf (strengthsOf a e) (e .«epoch_year»)) v (p5 .1) })
+    (record { accepted = accepted-at a year day (p .0) e (q .1 .0); lists = listed (a .g) (a .h) (a .g-dot) (a .h-dot) (l .0); same = y .0; is = answered-one (recordOf (strengthsOf a e) (e .«epoch_year»)) v (y .1) })
 
 -- an answer is for a day that Epoch answers for
 pub day-found : (a : Asked) (year day : ℤ) (v : GeomagneticField) → fieldSays a year day ≡ answered v → epochSays year day ≡ answered (epochOffset year day)
-unfolding fieldSays placeSays
+unfolding fieldSays
 day-found a year day v h =
-    let p1 = passed (heightOk (a .height)) outsideHeight _ v h in
-    let p2 = passed (latitudeOk (a .sin-phi) (a .cos-phi)) Latitude _ v (p1 .1) in
-    let p3 = passed (circle (a .sin-lambda) (a .cos-lambda)) Longitude _ v (p2 .1) in
-    let q = after-answered (epochSays year day) (datedSays a) v (p3 .1) in
+    let p = told-answered (of-place a) _ v h in
+    let q = after-answered (epochSays year day) (datedSays a) v (p .1) in
     q .1 .0 ∙ ap answered (sym (epoch-is year day (q .0) (q .1 .0)))
 
 -- demand 3: an answer lies close to the exact field

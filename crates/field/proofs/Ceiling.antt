@@ -3,13 +3,11 @@ use mathlib.Core.Path.{_≡_, refl, sym, subst}
 use Prim.Native.Nat.{ℕ, zero, suc, _+_, _*_, _/_, _^_, _≤_, _<_}
 use native.Mathlib.Nat.{add-mul, div-add-mod', le-of-mul-le-mul-right, le-trans, mod-lt, mul-le-mul, mul-le-mul-right, not-suc-le-zero, zero-mul, mul-zero, zero-lt-suc}
 use native.Mathlib.Omega.{arith}
-use mathlib.Core.Bool.{Bool, true, false, not, _&&_, cond}
-use lib.Dec.{T, leb, leb→le, lit<, lit≤}
+use mathlib.Core.Bool.{Bool, true, false, not, cond}
+use lib.Dec.{T, leb, leb→le, lit≤}
 use lib.IntN.{ℤ, pos, negsuc}
-use lib.Ieee.{Float, nan, inf, fin, binary32, up, down, ofBits, ofInt, round, le}
-use lib.Ieee.Bits.{is-true}
-use lib.Ieee.Fits.{and-i, and-l, and-r, down-pos}
-use lib.Ieee.Order.{le-of-values}
+use lib.Ieee.{Float, fin, binary32, ofBits, ofInt, round, le}
+use lib.Ieee.Fits.{and-l, and-r}
 use lib.Ieee.Positive.{between, den, num, own-value, values-of-le}
 use Rattle.exact.specs.Exact.{Exact, Size, invE, own, size}
 use Rattle.exact.proofs.Circle.{Slight, circle-slight}
@@ -20,7 +18,6 @@ use Rattle.exact.proofs.Sizes.{own-over, own-size}
 use Rattle.exact.specs.Tests.{capped}
 use Rattle.models.specs.declared.epochs.EpochOffset.{EpochOffset}
 use Rattle.geocentric.proofs.Laws.{latitude-circle}
-use lib.Ieee.Scale.{finite}
 use Rattle.tables.specs.Degree.{N-MAX, place}
 use Rattle.tables.specs.Tables.{kAt, kBits, schmidtAt, schmidtBits}
 use Rattle.sums.specs.Arithmetic.{Arithmetic, plusS, rounded, sizes, timesS}
@@ -30,18 +27,20 @@ use Rattle.sums.proofs.Keeps.{rounded-keeps}
 use Rattle.sums.proofs.Images.{size-hom}
 use Rattle.sums.specs.Recurrence.{Input, angle, coefficient, dpsn, gc-hs, gs-hc, legendre, lit, pole-angle, pole-gc, pole-gs, pole-x, pole-x-row, pole-y, pole-z, pole-z-row, power, psn, quotient, step, total, x-row, x-sum, y-row, y-sum, z-row, z-sum}
 use Rattle.sums.proofs.Related.{Alike, Related, pole-x-related, pole-y-related, pole-z-related, x-sum-related, y-sum-related, z-sum-related}
-use Rattle.synthesis.specs.Sum.{Lent, SumAccepted, inputs, main-cap, rate-cap, ratio-ok, sum-x, sum-y, sum-z}
+use Rattle.lists.specs.Lists.{main-cap, rate-cap}
+use Rattle.synthesis.specs.Sum.{Lent, SumAccepted, inputs, ratio-ok, sum-x, sum-y, sum-z}
 use Rattle.sums.specs.Paths.{POLE-ORDERS, placed, small-sine}
-use Rattle.synthesis.proofs.Checked.{Listed}
+use Rattle.lists.proofs.Checked.{Listed}
 use Rattle.synthesis.proofs.Demand as Sum
 use Rattle.field.specs.Turn.{cos-turn, sin-turn, turn-x, turn-z}
 use Rattle.field.specs.Field.{FieldAccepted, Asked, field-x, field-y, field-z, fieldSays, handed, recordOf, strengthsOf}
-use Rattle.field.specs.declared.strengths.GeomagneticField.{GeomagneticField}
+use Rattle.strengths.specs.declared.GeomagneticField.{GeomagneticField}
 use Rattle.field.proofs.Answers.{found}
 use Rattle.models.specs.Epochs.{epochOffset, knownEpoch}
 use Rattle.models.specs.Errors.{errorModel}
 use Rattle.refusals.specs.Paper.{answered}
-use Rattle.field.specs.Strengths.{hOf, max-component, strengthSays, uncertaintyOf, uncertaintySays, usable, zoneOf, zoneSays}
+use Rattle.strengths.proofs.Room.{all-three, below-largest, capped-by}
+use Rattle.strengths.specs.Strengths.{hOf, max-component, strengthSays, uncertaintyOf, uncertaintySays, usable, zoneOf, zoneSays}
 use Rattle.field.proofs.TurnNear.{turnedA}
 use Rattle.field.proofs.Laws.{field-x-image, field-x-near, field-y-image, field-y-near, field-z-image, field-z-near, sum-accepted}
 
@@ -242,18 +241,6 @@ module _ (c s cp sp : Float) (C : Slight c) (S : Slight s) (CP : Slight cp) (SP 
   turn-z-under = under-more (lit≤ tt) (under-plus (under-times X sin-under) (under-times Z cos-under))
 
 -- ---- from a majorant in units to the test of a component
--- what X and Z, and Y, come to at most is below the largest size of a component
-below-largest : (leb (2 * suc (2 ^ 55)) (num max-component) ≡ true) × (leb (2 * suc (15 * 2 ^ 55 + 1)) (num max-component) ≡ true)
-unfolding ofBits
-below-largest = (refl, refl)
-
-capped-by : (f : Float) → T (finite f) → own f .plus + own f .minus ≤ num max-component * own f .over → T (capped max-component f)
-unfolding capped ofBits own
-capped-by nan t h = absurd t
-capped-by (inf s) t h = absurd t
-capped-by (fin false m e) t h = le-of-values (fin false m e) max-component (m * up e) (down e) (num max-component) 1 (down-pos e) (lit< tt) (refl, refl) (refl, refl) (omega arith)
-capped-by (fin true m e) t h = le-of-values (fin false m e) max-component (m * up e) (down e) (num max-component) 1 (down-pos e) (lit< tt) (refl, refl) (refl, refl) (omega arith)
-
 -- the same nearness with a sharper size
 pub resized : {k B E : ℕ} {f : Float} {x : Exact} (B' : ℕ) → Near k B E f x → x .plus + x .minus ≤ B' * x .over → Near k B' E f x
 resized B' m h =
@@ -271,11 +258,6 @@ small {f = f} {x = x} b B' m e u l F t =
     let v : Under (size x) b = subst (λ (z : Size). Under z b) (sym e) u in
     let s = near-size (resized B' m (cut-units (x .plus + x .minus) b B' (x .over) l (v .units (m .close .over)))) F in
     capped-by f (s .0) (le-trans (s .1) (mul-le-mul-right (own f .over) t))
-
-all-three : (x y z : Float) → T (capped max-component x) → T (capped max-component y) → T (capped max-component z) → capped max-component x && capped max-component y && capped max-component z ≡ true
-all-three x y z p q r =
-    let c : Float → Bool = capped max-component in
-    is-true (c x && c y && c z) (and-i (c x && c y) (c z) (and-i (c x) (c y) p q) r)
 
 module _ (a : Asked) (e : EpochOffset) (w : FieldAccepted a e) (l : Listed (a .g) (a .h) (a .g-dot) (a .h-dot)) where
   abbrev given : SumAccepted (handed a e)

@@ -23,9 +23,9 @@ use Rattle.sums.specs.Paths.{placed}
 use Rattle.sums.proofs.Related.{Alike, path-x-related, path-y-related, path-z-related}
 use Rattle.sums.specs.Same.{Same, null, same}
 use Rattle.sums.proofs.SameLaws.{abs-same, add-same, by-same, null-times, same-related, square-same}
-use Rattle.field.specs.declared.strengths.GeomagneticField.{GeomagneticField}
+use Rattle.strengths.specs.declared.GeomagneticField.{GeomagneticField}
 use Rattle.field.specs.Field.{Asked, fieldSays, field-x, field-y, field-z, handed}
-use Rattle.field.specs.Strengths.{hOf, usable, zoneOf, zoneSays}
+use Rattle.strengths.specs.Strengths.{hOf, usable, zoneOf, zoneSays}
 use Rattle.field.proofs.TurnRelated.{turn-x-related, turn-z-related}
 use Rattle.field.proofs.Laws.{sum-accepted}
 use Rattle.field.proofs.Answers.{Found, found}

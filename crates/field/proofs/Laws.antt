@@ -1,27 +1,29 @@
 -- Field hands Sum only what Sum accepts, and its X, Y and Z keep the distance of demand 3, for every accepted input.
-use mathlib.Core.Path.{_≡_, sym}
+use mathlib.Core.Path.{_≡_}
 use mathlib.Core.Bool.{true, not}
 use mathlib.Core.Logic.{⊎-elim}
 use lib.Dec.{T, lit≤}
 use lib.IntN.{ℤ}
 use lib.Ieee.{Float}
 use lib.Ieee.Positive.{positive}
-use Rattle.refusals.specs.Paper.{Paper, answered}
-use Rattle.refusals.proofs.Laws.{passed}
+use Rattle.refusals.specs.Paper.{answered, told}
+use Rattle.refusals.specs.declared.Verdict.the-variants as Verdict
+use Rattle.refusals.proofs.Laws.{check-accepted}
 use Rattle.refusals.specs.declared.Refusal.the-variants.{Latitude, Longitude}
 use Rattle.models.specs.declared.epochs.EpochOffset.{EpochOffset}
 use Rattle.models.specs.Epochs.{epochSays, knownEpoch}
 use Rattle.models.specs.Dated.{Dated, dated}
 use Rattle.sums.proofs.Distance.{majored}
-use Rattle.field.specs.declared.strengths.GeomagneticField.{GeomagneticField}
-use Rattle.field.specs.Field.{FieldAccepted, Asked, FieldClose, field-x, field-y, field-z, handed, outsideHeight, placeSays, recordOf, strengthsOf}
+use Rattle.field.specs.Field.{FieldAccepted, Asked, FieldClose, field-x, field-y, field-z, handed, outsideHeight, placeVerdict, recordOf, strengthsOf}
 use Rattle.exact.specs.Exact.{Exact}
 use Rattle.exact.proofs.Ranks.{Leaf, Nr}
 use Rattle.exact.proofs.Reach.{within}
-use Rattle.synthesis.proofs.Checked.{Listed, holds}
+use Rattle.lists.proofs.Checked.{Listed, holds}
+use Rattle.synthesis.proofs.Checked.{numbers-pass}
 use Rattle.exact.specs.Tests.{circle}
 use Rattle.geocentric.specs.Geo.{heightOk, latitudeOk}
-use Rattle.synthesis.specs.Sum.{SumAccepted, listsSay, ratio-ok, sumSays, valueOf}
+use Rattle.lists.specs.Lists.{listsVerdict}
+use Rattle.synthesis.specs.Sum.{SumAccepted, ratio-ok, sumSays, valueOf}
 use Rattle.sums.specs.Paths.{small-sine}
 use Rattle.sums.specs.Arithmetic.{Arithmetic}
 use Rattle.sums.proofs.Keeps.{Keeps, rounded-keeps}
@@ -32,7 +34,6 @@ use Rattle.sums.proofs.Related.{Related}
 use Rattle.sums.proofs.Images.{Hom, hom-related, size-hom}
 use Rattle.geocentric.proofs.Laws.{never-10, never-9, sine-positive, latitude-leaf}
 use Rattle.field.proofs.Offset.{never-11}
-use Rattle.synthesis.proofs.Carry.{numbers-accept}
 use Rattle.field.proofs.TurnNear.{turned-x-near, turned-z-near, turnedA}
 use Rattle.field.proofs.TurnRelated.{turn-x-related, turn-z-related}
 
@@ -72,9 +73,9 @@ module _ (a : Asked) (e : EpochOffset) (w : FieldAccepted a e) where
   field-never-10 = never-10 (a .height) (a .sin-phi) (a .cos-phi) (w .height) (w .latitude)
 
   -- so Sum says of Field's numbers what its lists say
-  pub sum-says : sumSays (handed a e) ≡ listsSay (a .g) (a .h) (a .g-dot) (a .h-dot) (answered (valueOf (handed a e)))
+  pub sum-says : sumSays (handed a e) ≡ told (listsVerdict (a .g) (a .h) (a .g-dot) (a .h-dot)) (answered (valueOf (handed a e)))
   unfolding handed
-  sum-says = numbers-accept (handed a e) field-never-9 (w .longitude) field-never-10 (w .offset)
+  sum-says = numbers-pass (handed a e) field-never-9 (w .longitude) field-never-10 (w .offset)
 
   -- where Y' is divided by the sine, the sine is above zero
   pub divided-by-positive : T (not (small-sine (handed a e .sin-theta))) → T (positive (handed a e .sin-theta))
@@ -139,12 +140,10 @@ module _ (a : Asked) (year day : ℤ) where
       record { height = holds h; latitude = holds l; longitude = holds c; offset = never-11 t; known = known-of t }
 
   -- a place that passed, and a day that Epoch answered for
-  pub accepted-at : ((q : Paper GeomagneticField) → q ≡ placeSays (a .height) (a .sin-phi) (a .cos-phi) (a .sin-lambda) (a .cos-lambda) q)
-      → (e : EpochOffset) → epochSays year day ≡ answered e → FieldAccepted a e
-  unfolding placeSays
+  pub accepted-at : placeVerdict (a .height) (a .sin-phi) (a .cos-phi) (a .sin-lambda) (a .cos-lambda) ≡ Verdict.Accepted → (e : EpochOffset) → epochSays year day ≡ answered e → FieldAccepted a e
+  unfolding placeVerdict
   accepted-at f e d =
-      let v : GeomagneticField = recordOf (record { x = a .height; y = a .height; z = a .height }) (e .«epoch_year») in
-      let p1 = passed (heightOk (a .height)) outsideHeight _ v (sym (f (answered v))) in
-      let p2 = passed (latitudeOk (a .sin-phi) (a .cos-phi)) Latitude _ v (p1 .1) in
-      let p3 = passed (circle (a .sin-lambda) (a .cos-lambda)) Longitude _ v (p2 .1) in
+      let p1 = check-accepted (heightOk (a .height)) outsideHeight _ f in
+      let p2 = check-accepted (latitudeOk (a .sin-phi) (a .cos-phi)) Latitude _ (p1 .1) in
+      let p3 = check-accepted (circle (a .sin-lambda) (a .cos-lambda)) Longitude _ (p2 .1) in
       accepted-by (p1 .0) (p2 .0) (p3 .0) e d

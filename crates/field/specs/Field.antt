@@ -8,7 +8,9 @@ use lib.IntN.{ℤ, pos, negsuc}
 use lib.Ieee.{Float, binary32, ofBits, neg}
 use Rattle.exact.specs.Tests.{circle}
 use Rattle.exact.specs.Within.{Within}
-use Rattle.refusals.specs.Paper.{Paper, answered, paper, unless, after}
+use Rattle.refusals.specs.Paper.{Paper, answered, paper, unless, after, told, check}
+use Rattle.refusals.specs.declared.Verdict.{Verdict}
+use Rattle.refusals.specs.declared.Verdict.the-variants as Verdict
 use Rattle.refusals.specs.declared.Refusal.{Refusal}
 use Rattle.refusals.specs.declared.Refusal.the-variants.{Height, Latitude, Longitude, OtherEpoch}
 use Rattle.models.specs.declared.epochs.EpochOffset.{EpochOffset}
@@ -16,9 +18,10 @@ use Rattle.models.specs.Epochs.{wrongEpoch, knownEpoch, epochSays}
 use Rattle.models.specs.Errors.{errorModel}
 use Rattle.geocentric.specs.Geo.{cosOf, sinOf, ratioOf, heightOk, latitudeOk}
 use Rattle.sums.specs.Arithmetic.{Arithmetic, rounded, sizes, unrounded}
-use Rattle.synthesis.specs.Sum.{Lent, listsSay, offset-ok, sum-x, sum-y, sum-z}
+use Rattle.lists.specs.Lists.{listsVerdict}
+use Rattle.synthesis.specs.Sum.{Lent, offset-ok, sum-x, sum-y, sum-z}
 use Rattle.synthesis.specs.declared.Xyz.{Xyz}
-use Rattle.field.specs.declared.strengths.GeomagneticField.{GeomagneticField}
+use Rattle.strengths.specs.declared.GeomagneticField.{GeomagneticField}
 use Rattle.field.specs.declared.FieldAnswer.{FieldAnswer}
 use Rattle.field.specs.declared.FieldAnswer.the-variants as Answer
 use Rattle.field.specs.Turn.{turn-x, turn-z}
@@ -85,16 +88,12 @@ sameYear (negsuc a) (negsuc b) = eqb a b
 abbrev pub outsideHeight : Refusal
 outsideHeight = Height (neg (ofBits binary32 0x3f800000)) (ofBits binary32 0x44548000)
 
--- refusal 1, as the paper says it
-abbrev pub wrongHeight : {A : Type 0} → Paper A
-wrongHeight = paper outsideHeight
-
--- refusals 1, 2 and 3 of a place, or p
-unfoldable pub placeSays : {A : Type 0} → (height sin-phi cos-phi sin-lambda cos-lambda : Float) → Paper A → Paper A
-placeSays height sin-phi cos-phi sin-lambda cos-lambda p =
-    unless (heightOk height) wrongHeight
-    (unless (latitudeOk sin-phi cos-phi) (paper Latitude)
-    (unless (circle sin-lambda cos-lambda) (paper Longitude) p))
+-- refusal 1, 2 or 3 of a place, the first that is due
+unfoldable pub placeVerdict : (height sin-phi cos-phi sin-lambda cos-lambda : Float) → Verdict
+placeVerdict height sin-phi cos-phi sin-lambda cos-lambda =
+    check (heightOk height) outsideHeight
+    (check (latitudeOk sin-phi cos-phi) Latitude
+    (check (circle sin-lambda cos-lambda) Longitude Verdict.Accepted))
 
 -- refusal 8, which carries both years, or the record
 unfoldable pub shownSays : (set-epoch day-epoch : ℤ) → Xyz → Paper GeomagneticField
@@ -105,12 +104,12 @@ shownSays set-epoch day-epoch v =
 unfoldable pub datedSays : Asked → EpochOffset → Paper GeomagneticField
 datedSays a e =
     unless (knownEpoch (a .set-epoch)) wrongEpoch
-    (listsSay (a .g) (a .h) (a .g-dot) (a .h-dot) (shownSays (a .set-epoch) (e .«epoch_year») (strengthsOf a e)))
+    (told (listsVerdict (a .g) (a .h) (a .g-dot) (a .h-dot)) (shownSays (a .set-epoch) (e .«epoch_year») (strengthsOf a e)))
 
 -- Field, by document 01's order: 1, 2, 3, then 4 and 5 of the day as Epoch gives them, then 5 of the set, 6, 7, 8
 unfoldable pub fieldSays : Asked → (year day : ℤ) → Paper GeomagneticField
 fieldSays a year day =
-    placeSays (a .height) (a .sin-phi) (a .cos-phi) (a .sin-lambda) (a .cos-lambda) (after (epochSays year day) (datedSays a))
+    told (placeVerdict (a .height) (a .sin-phi) (a .cos-phi) (a .sin-lambda) (a .cos-lambda)) (after (epochSays year day) (datedSays a))
 
 -- the paper's number and values of each case of the answer
 abbrev pub said : FieldAnswer → Paper GeomagneticField

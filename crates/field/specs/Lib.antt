@@ -1,5 +1,3 @@
--- Definitions: Turn, Field, Strengths, Grid.
+-- Definitions: Turn, Field.
 pub mod Turn
 pub mod Field
-pub mod Strengths
-pub mod Grid

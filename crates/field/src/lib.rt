@@ -8,6 +8,7 @@ use place::check_place;
 use refusals::Day;
 use refusals::Refusal;
 use refusals::Verdict;
+use strengths::GeomagneticField;
 use synthesis::Colatitude;
 use synthesis::Longitude;
 use synthesis::SumAnswer;
@@ -18,16 +19,8 @@ ghost use mathlib.Core.Bool.{true};
 ghost use Rattle.models.specs.Epochs.{knownEpoch, epochOffset};
 ghost use Rattle.field.specs.Field.{asked, FieldAccepted, fieldSays, datedSays, shownSays, said, FieldClose};
 
-mod grid;
 mod place;
-mod strengths;
 mod turn;
-
-pub use grid::GridAnswer;
-pub use grid::grid_variation;
-pub use strengths::GeomagneticField;
-pub use strengths::StrengthAnswer;
-pub use strengths::ZoneAnswer;
 
 // The pair of the geodetic latitude.
 pub struct Latitude {

@@ -4,9 +4,7 @@ use refusals::Refusal;
 use refusals::Verdict;
 use synthesis::Longitude;
 ghost use mathlib.Core.Path.{_≡_};
-ghost use Rattle.refusals.specs.Paper.{Paper, told};
-ghost use Rattle.field.specs.declared.strengths.GeomagneticField.{GeomagneticField};
-ghost use Rattle.field.specs.Field.{placeSays};
+ghost use Rattle.field.specs.Field.{placeVerdict};
 
 // The lowest height is minus this.
 const MAX_DEPTH_M: f32 = 1000.0;
@@ -17,7 +15,7 @@ const MAX_HEIGHT_M: f32 = 850000.0;
 const BEYOND_POLE: f32 = f32::from_bits(0x35800000);
 
 pub fn check_place(height: f32, latitude: Latitude, longitude: Longitude) -> Verdict
-    ensures { λ r. ⌜ ((p : Paper GeomagneticField) → told r p ≡ placeSays height (latitude .sin) (latitude .cos) (longitude .sin) (longitude .cos) p) ⌝ }
+    ensures { λ r. ⌜ r ≡ placeVerdict height (latitude .sin) (latitude .cos) (longitude .sin) (longitude .cos) ⌝ }
 {
     if float32::outside(height, -MAX_DEPTH_M, MAX_HEIGHT_M) {
         return Verdict::Refused(Refusal::Height {

@@ -7,7 +7,9 @@ pub use Rattle.tables.proofs.Unique.{schmidt-table, k-table}
 pub use Rattle.models.proofs.Unique.{known-epoch, epoch, error-model-by-epoch-year}
 pub use Rattle.geocentric.proofs.Unique.{geodetic-to-geocentric, radius-ratio}
 pub use Rattle.synthesis.proofs.Unique.{sum}
-pub use Rattle.field.proofs.Unique.{field, h, f, declination-warning, declination-uncertainty, grid-variation}
+pub use Rattle.lists.proofs.Unique.{check-lists}
+pub use Rattle.strengths.proofs.Unique.{h, f, declination-warning, declination-uncertainty, grid-variation}
+pub use Rattle.field.proofs.Unique.{field}
 pub use Rattle.allowance.proofs.Unique.{allowance}
 pub use Rattle.ffi.proofs.Unique.{njerumoy-field, njerumoy-allowance, njerumoy-sum, njerumoy-epoch, njerumoy-horizontal, njerumoy-total}
 pub use Rattle.ffi.proofs.Unique.{njerumoy-zone, njerumoy-declination-uncertainty, njerumoy-grid-variation, njerumoy-square-root}

@@ -14,12 +14,13 @@ use Rattle.tables.specs.Tables.{schmidtAt, schmidtBits, kAt, kBits}
 use Rattle.synthesis.specs.declared.Xyz.{Xyz}
 use Rattle.sums.specs.Arithmetic.{rounded}
 use Rattle.sums.specs.Recurrence.{angle, dpsn, gc-hs, gs-hc, legendre, lit, pole-angle, pole-gc, pole-gs, pole-x, pole-x-row, pole-y, pole-z, pole-z-row, power, psn, quotient, step, total, x-row, x-sum, y-row, y-sum, z-row, z-sum}
-use Rattle.synthesis.specs.Sum.{entriesSay, inputs, listsSay}
+use Rattle.lists.specs.Lists.{entriesVerdict, listsVerdict}
+use Rattle.synthesis.specs.Sum.{inputs}
 use Rattle.sums.specs.Paths.{placed, small-sine}
 use Rattle.geocentric.specs.Geo.{flatness, curve, cosine-factor, sine-factor, cylinder, axis, radiusOf, cosOf, sinOf, ratioOf}
-use Rattle.field.specs.declared.strengths.GeomagneticField.{GeomagneticField}
+use Rattle.strengths.specs.declared.GeomagneticField.{GeomagneticField}
 use Rattle.field.specs.Turn.{turn-x, turn-z, sin-turn, cos-turn}
-use Rattle.field.specs.Field.{Asked, asked, recordOf, handed, field-x, field-y, field-z, placeSays, shownSays, datedSays, fieldSays}
+use Rattle.field.specs.Field.{Asked, asked, recordOf, handed, field-x, field-y, field-z, placeVerdict, shownSays, datedSays, fieldSays}
 use Rattle.paper.specs.Examples.{nought, one, zeros, dipole}
 
 -- the place with this latitude's pair, at sea level, on longitude 0; the set is of 2025
@@ -32,5 +33,5 @@ shown x z = answered (recordOf (record { x = ofBits binary32 x; y = nought; z = 
 
 -- on the equator the field points north, by 29,902.2 nT; at the pole it points down, by 60,410.0 nT (X is -0)
 pub field-answers : (fieldSays (at nought one) (pos 2025) (pos 1) ≡ shown 0x46e99c72 0) × (fieldSays (at one nought) (pos 2025) (pos 1) ≡ shown 0x80000000 0x476bfa0b)
-unfolding fieldSays placeSays datedSays shownSays handed field-x field-y field-z turn-x turn-z sin-turn cos-turn flatness curve cosine-factor sine-factor cylinder axis radiusOf cosOf sinOf ratioOf sqrtOf epochSays dayExists epochYear knownEpoch offsetOf leapYear errorModel listsSay entriesSay circle capped small-sine inputs placed schmidtAt schmidtBits kAt kBits rounded lit angle pole-angle step legendre total gc-hs gs-hc psn dpsn power x-row y-row z-row x-sum y-sum z-sum quotient pole-gc pole-gs pole-x-row pole-z-row pole-x pole-y pole-z ofBits ofInt round sum add sub mul neg div lt le eq
+unfolding fieldSays placeVerdict datedSays shownSays handed field-x field-y field-z turn-x turn-z sin-turn cos-turn flatness curve cosine-factor sine-factor cylinder axis radiusOf cosOf sinOf ratioOf sqrtOf epochSays dayExists epochYear knownEpoch offsetOf leapYear errorModel listsVerdict entriesVerdict circle capped small-sine inputs placed schmidtAt schmidtBits kAt kBits rounded lit angle pole-angle step legendre total gc-hs gs-hc psn dpsn power x-row y-row z-row x-sum y-sum z-sum quotient pole-gc pole-gs pole-x-row pole-z-row pole-x pole-y pole-z ofBits ofInt round sum add sub mul neg div lt le eq
 field-answers = (refl, refl)

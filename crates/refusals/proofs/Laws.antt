@@ -14,7 +14,7 @@ use Rattle.refusals.specs.declared.Refusal.{Refusal}
 use Rattle.refusals.specs.declared.Refusal.the-variants as Refusal
 use Rattle.refusals.specs.declared.Verdict.{Verdict}
 use Rattle.refusals.specs.declared.Verdict.the-variants as Verdict
-use Rattle.refusals.specs.Paper.{Line, carries, line, Paper, answered, refused, paper, unless, told}
+use Rattle.refusals.specs.Paper.{Line, carries, line, Paper, answered, refused, paper, unless, told, check, both}
 use Rattle.refusals.proofs.Refusal.{the-type}
 
 -- ---- the number and the values leave one refusal
@@ -127,8 +127,21 @@ passed true k p a e = (refl, e)
 passed false k p a e = absurd (no-answer k a e)
 
 -- ---- what a verdict leaves
-pub told-refused : {A : Type 0} (u : Verdict) (k : Refusal) (F : Paper A → Paper A) → ((p : Paper A) → told u p ≡ F p) → u ≡ Verdict.Refused k → (p : Paper A) → paper k ≡ F p
-told-refused u k F f e p = sym (ap (λ (v : Verdict). told v p) e) ∙ f p
+-- a group of checks that refuses nothing: each test passed
+pub check-accepted : (b : Bool) (k : Refusal) (v : Verdict) → check b k v ≡ Verdict.Accepted → (b ≡ true) × (v ≡ Verdict.Accepted)
+check-accepted true k v e = (refl, e)
+check-accepted false k v e = absurd (let z : _≡_ {A = ℕ} 0 1 = cc in omega arith)
 
-pub told-accepted : {A : Type 0} (u : Verdict) (F : Paper A → Paper A) → ((p : Paper A) → told u p ≡ F p) → u ≡ Verdict.Accepted → (p : Paper A) → p ≡ F p
-told-accepted u F f e p = sym (ap (λ (v : Verdict). told v p) e) ∙ f p
+pub both-accepted : (u v : Verdict) → both u v ≡ Verdict.Accepted → (u ≡ Verdict.Accepted) × (v ≡ Verdict.Accepted)
+both-accepted Verdict.Accepted v e = (refl, e)
+both-accepted (Verdict.Refused k) v e = absurd (let z : _≡_ {A = ℕ} 0 1 = cc in omega arith)
+
+-- an answer behind a verdict: nothing was refused
+pub told-answered : {A : Type 0} (u : Verdict) (p : Paper A) (a : A) → told u p ≡ answered a → (u ≡ Verdict.Accepted) × (p ≡ answered a)
+told-answered Verdict.Accepted p a e = (refl, e)
+told-answered (Verdict.Refused k) p a e = absurd (no-answer k a e)
+
+-- a refusal before an answer is the same refusal before anything else
+pub told-carry : {A B : Type 0} (u : Verdict) (k : Refusal) (a : A) (p : Paper B) → paper k ≡ told u (answered a) → paper k ≡ told u p
+told-carry Verdict.Accepted k a p e = absurd (no-answer k a e)
+told-carry (Verdict.Refused j) k a p e = ap paper (paper-one k j e)

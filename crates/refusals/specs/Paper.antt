@@ -56,3 +56,13 @@ after (refused n x z) f = refused n x z
 abbrev pub told : {A : Type 0} → Verdict → Paper A → Paper A
 told Verdict.Accepted p = p
 told (Verdict.Refused k) p = paper k
+
+-- a test of a group of checks: what follows it, or the refusal
+abbrev pub check : Bool → Refusal → Verdict → Verdict
+check true k v = v
+check false k v = Verdict.Refused k
+
+-- one group of checks, then another
+abbrev pub both : Verdict → Verdict → Verdict
+both Verdict.Accepted v = v
+both (Verdict.Refused k) v = Verdict.Refused k

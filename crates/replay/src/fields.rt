@@ -8,13 +8,13 @@ use crate::replies::WRONG;
 use crate::sets;
 use crate::sets::Set;
 use field::FieldAnswer;
-use field::GeomagneticField;
-use field::GridAnswer;
 use field::Latitude;
-use field::StrengthAnswer;
-use field::ZoneAnswer;
 use models::WmmErrorModel;
 use refusals::Day;
+use strengths::GeomagneticField;
+use strengths::GridAnswer;
+use strengths::StrengthAnswer;
+use strengths::ZoneAnswer;
 use synthesis::Longitude;
 ghost use Prim.Native.Nat.{_≤_};
 
@@ -175,5 +175,5 @@ pub fn grid(line: &[u8]) -> Reply {
     let latitude = read::float(line, 2);
     let longitude = read::float(line, 11);
     let declination = read::float(line, 20);
-    variation(field::grid_variation(latitude, longitude, declination))
+    variation(strengths::grid_variation(latitude, longitude, declination))
 }

@@ -23,7 +23,8 @@ use Rattle.sums.proofs.Related.{Alike, Related, path-x-related, path-y-related,
 use Rattle.sums.proofs.Images.{dated-related, hom-related, placed-alike, size-hom}
 use Rattle.sums.proofs.Stored.{k-near, schmidt-near}
 use Rattle.sums.proofs.Distance.{divides, path-x-within, path-y-within, path-z-within}
-use Rattle.synthesis.specs.Sum.{Lent, SumAccepted, SumClose, inputs, main-cap, offset-ok, rate-cap, ratio-ok, sum-x, sum-y, sum-z, valueOf}
+use Rattle.lists.specs.Lists.{main-cap, rate-cap}
+use Rattle.synthesis.specs.Sum.{Lent, SumAccepted, SumClose, inputs, offset-ok, ratio-ok, sum-x, sum-y, sum-z, valueOf}
 
 -- ---- sizes from the checks
 capped-at : (cap : Float) (l : List Float) (j : ℕ) → T (capped cap nought) → T (all-capped cap l) → T (capped cap (getD l j nought))

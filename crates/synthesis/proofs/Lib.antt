@@ -5,8 +5,8 @@ pub mod Filled
 pub mod RowsHold
 pub mod GeneralSum
 pub mod PoleSum
+pub mod NumberChecks
 pub mod Checked
-pub mod Carry
 pub mod LaneLaws
 pub mod AcceptedPlain
 pub mod Unique

@@ -2,10 +2,10 @@
 use mathlib.Core.Path.{_≡_}
 use mathlib.Core.List.{List, [], _∷_}
 use Prim.Native.Nat.{ℕ, zero, suc, _+_, _*_, _-_, _/_, _<_, _≤_}
-use mathlib.Core.Bool.{Bool, _&&_, cond}
+use mathlib.Core.Bool.{cond}
 use lib.Dec.{eqb, ltb}
 use lib.ListN.{getD, set, length}
-use lib.Ieee.{Float, nan, binary32, ofBits, neg}
+use lib.Ieee.{Float, nan, binary32, ofBits}
 use Rattle.tables.specs.Degree.{M-LEN, N-COEFF, N-LEGENDRE, N-MAX, place}
 use Rattle.synthesis.specs.declared.Xyz.{Xyz}
 use Rattle.synthesis.specs.declared.rows.Four.{Four}
@@ -17,10 +17,8 @@ use Rattle.synthesis.specs.declared.date.Gh.{Gh}
 use Rattle.synthesis.specs.declared.near_pole.PoleRow.{PoleRow}
 use Rattle.synthesis.specs.declared.lanes.Starts.{Starts}
 use Rattle.sums.specs.Recurrence.{Input, angle, coefficient, downward, dps, gc, gs, lit, next-quotient, pole-east, pole-x, pole-y, pole-z, power, ps, step, total, x-row, x-sum, y-row, y-sum, z-row, z-sum}
-use Rattle.synthesis.specs.Sum.{main-cap, rate-cap}
 use Rattle.sums.specs.Paths.{POLE-ORDERS}
 use Rattle.sums.specs.Arithmetic.{Pair, pair, rounded}
-use Rattle.exact.specs.Tests.{all-between}
 
 -- P and its derivative, and back
 abbrev pub pdp : Pair Float → PDp
@@ -217,12 +215,6 @@ pub record Weighed (i : Input Float) (cw sw kw : List Float) : Type 0 where
   pub cos-theta : (j : ℕ) → j < W-LEN → getD cw j nan ≡ cond (ltb j N-MAX) (i .cos-theta) (lit 1)
   pub sin-theta : (j : ℕ) → j < W-LEN → getD sw j nan ≡ cond (ltb j N-MAX) (i .sin-theta) (lit 0)
   pub k : (j : ℕ) → j < W-LEN → getD kw j nan ≡ cond (ltb j N-MAX) (lit 1) (lit 0)
-
--- ---- the checks
--- every entry of the four lists is within its cap
-unfoldable pub withinOf : List Float → List Float → List Float → List Float → Bool
-withinOf g h g-dot h-dot =
-    all-between (neg main-cap) main-cap g && all-between (neg main-cap) main-cap h && all-between (neg rate-cap) rate-cap g-dot && all-between (neg rate-cap) rate-cap h-dot
 
 -- ---- near the pole
 -- Q of degree n, from those of degrees n - 1 and n - 2

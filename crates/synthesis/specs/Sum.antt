@@ -1,16 +1,17 @@
 -- The entry Sum (document 01, "What is carried over"): what it is lent, its refusals in their order, its answer, and the exact sum that it is near.
 -- Definitions only.
-use mathlib.Core.Bool.{Bool, _&&_}
-use mathlib.Core.List.{List, [], _∷_}
-use Prim.Native.Nat.{ℕ, suc}
-use lib.Dec.{T, eqb}
-use lib.ListN.{length}
+use mathlib.Core.Bool.{Bool}
+use mathlib.Core.List.{List}
+use lib.Dec.{T}
 use lib.Ieee.{Float, binary32, ofBits}
-use Rattle.exact.specs.Tests.{all-capped, between, circle, capped}
+use Rattle.exact.specs.Tests.{all-capped, between, circle}
 use Rattle.exact.specs.Within.{Within}
-use Rattle.refusals.specs.Paper.{Paper, answered, paper, unless}
-use Rattle.refusals.specs.declared.Refusal.the-variants.{Longitude, Length, Coefficient, Colatitude, Ratio, Offset}
-use Rattle.tables.specs.Degree.{N-MAX, N-COEFF}
+use Rattle.refusals.specs.Paper.{Paper, answered, paper, told, check}
+use Rattle.refusals.specs.declared.Refusal.the-variants.{Longitude, Colatitude, Ratio, Offset}
+use Rattle.refusals.specs.declared.Verdict.{Verdict}
+use Rattle.refusals.specs.declared.Verdict.the-variants as Verdict
+use Rattle.lists.specs.Lists.{listsVerdict, main-cap, rate-cap}
+use Rattle.tables.specs.Degree.{N-MAX}
 use Rattle.sums.specs.Arithmetic.{Arithmetic, rounded, unrounded, sizes}
 use Rattle.sums.specs.Recurrence.{Input}
 use Rattle.sums.specs.Paths.{dated, path-x, path-y, path-z, placed}
@@ -50,7 +51,7 @@ module _ {A : Type 0} (o : Arithmetic A) (a : Lent) where
   abbrev pub sum-z : A
   sum-z = path-z o (inputs o a) N-MAX
 
--- ---- the checks (document 01, "Refusal numbers")
+-- ---- the checks of the numbers (document 01, "Refusal numbers")
 -- 0.875 to 1.015625
 unfoldable pub ratio-ok : Float → Bool
 ratio-ok x = between (ofBits binary32 0x3f600000) (ofBits binary32 0x3f820000) x
@@ -59,35 +60,13 @@ ratio-ok x = between (ofBits binary32 0x3f600000) (ofBits binary32 0x3f820000) x
 unfoldable pub offset-ok : Float → Bool
 offset-ok x = between (ofBits binary32 0) (ofBits binary32 0x40a00000) x
 
--- caps of 65,536 nT, and of 4,096 nT a year
-abbrev pub main-cap : Float
-main-cap = ofBits binary32 0x47800000
-
-abbrev pub rate-cap : Float
-rate-cap = ofBits binary32 0x45800000
-
--- refusal 9, 3, 10 or 11, or p
-unfoldable pub numbersSay : {A : Type 0} → Float → Float → Float → Float → Float → Float → Paper A → Paper A
-numbersSay cos-theta sin-theta sin-lambda cos-lambda ratio offset p =
-    unless (circle sin-theta cos-theta) (paper Colatitude)
-    (unless (circle sin-lambda cos-lambda) (paper Longitude)
-    (unless (ratio-ok ratio) (paper Ratio)
-    (unless (offset-ok offset) (paper Offset) p)))
-
--- refusal 7 at the first entry of list k, from index i on, that is not finite or over its cap, or p
-unfoldable pub entriesSay : {A : Type 0} → Float → ℕ → ℕ → List Float → Paper A → Paper A
-entriesSay cap k i [] p = p
-entriesSay cap k i (x ∷ l) p = unless (capped cap x) (paper (Coefficient k i)) (entriesSay cap k (suc i) l p)
-
--- each of the four lists is 90 long
-abbrev pub long : List Float → List Float → List Float → List Float → Bool
-long g h g-dot h-dot = eqb (length g) N-COEFF && eqb (length h) N-COEFF && eqb (length g-dot) N-COEFF && eqb (length h-dot) N-COEFF
-
--- refusal 6 or 7, or p
-unfoldable pub listsSay : {A : Type 0} → List Float → List Float → List Float → List Float → Paper A → Paper A
-listsSay g h g-dot h-dot p =
-    unless (long g h g-dot h-dot) (paper Length)
-    (entriesSay main-cap 0 0 g (entriesSay main-cap 1 0 h (entriesSay rate-cap 2 0 g-dot (entriesSay rate-cap 3 0 h-dot p))))
+-- refusal 9, 3, 10 or 11, the first that is due
+unfoldable pub numbersVerdict : (cos-theta sin-theta sin-lambda cos-lambda ratio offset : Float) → Verdict
+numbersVerdict cos-theta sin-theta sin-lambda cos-lambda ratio offset =
+    check (circle sin-theta cos-theta) Colatitude
+    (check (circle sin-lambda cos-lambda) Longitude
+    (check (ratio-ok ratio) Ratio
+    (check (offset-ok offset) Offset Verdict.Accepted)))
 
 -- ---- the answer
 unfoldable pub valueOf : Lent → Xyz
@@ -96,8 +75,8 @@ valueOf a = record { x = sum-x rounded a; y = sum-y rounded a; z = sum-z rounded
 -- Sum, by document 01's order: 9, 3, 10, 11, 6, 7, then the answer
 unfoldable pub sumSays : Lent → Paper Xyz
 sumSays a =
-    numbersSay (a .cos-theta) (a .sin-theta) (a .sin-lambda) (a .cos-lambda) (a .ratio) (a .offset)
-    (listsSay (a .g) (a .h) (a .g-dot) (a .h-dot) (answered (valueOf a)))
+    told (numbersVerdict (a .cos-theta) (a .sin-theta) (a .sin-lambda) (a .cos-lambda) (a .ratio) (a .offset))
+    (told (listsVerdict (a .g) (a .h) (a .g-dot) (a .h-dot)) (answered (valueOf a)))
 
 -- the paper's number and values of each case of the answer
 abbrev pub said : SumAnswer → Paper Xyz

@@ -1,5 +1,5 @@
 // Coefficients at a date.
-use crate::N_COEFF;
+use tables::N_COEFF;
 ghost use mathlib.Core.Path.{_≡_};
 ghost use Prim.Native.Nat.{_<_};
 ghost use lib.ListN.{length};

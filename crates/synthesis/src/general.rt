@@ -1,6 +1,5 @@
 // The general path: all orders, Y' not yet divided by sin θ.
 use crate::M_LEN;
-use crate::N_COEFF;
 use crate::Xyz;
 use crate::angles::SinCos;
 use crate::angles::sin_cos_m_lambda;
@@ -17,6 +16,7 @@ use crate::rows::legendre_index;
 use crate::rows::lower_four;
 use crate::rows::put_four;
 use crate::rows::rotate_row_indices;
+use tables::N_COEFF;
 use tables::N_LEGENDRE;
 use tables::N_MAX;
 ghost use mathlib.Core.Path.{_≡_};

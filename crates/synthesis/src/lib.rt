@@ -1,6 +1,6 @@
 // The entry Sum: X', Y and Z' of the model at a geocentric place and a date, in the crate's sign.
-use checks::check_lists;
-use checks::check_numbers;
+use lists::check_lists;
+use numbers::check_numbers;
 use paths::synthesize_geocentric_xyz;
 use refusals::Refusal;
 use refusals::Verdict;
@@ -8,18 +8,16 @@ ghost use mathlib.Core.Path.{_≡_};
 ghost use Rattle.synthesis.specs.Sum.{SumClose, lent, said, sumSays};
 
 mod angles;
-mod checks;
 mod date;
 mod general;
 mod lanes;
 mod near_pole;
+mod numbers;
 mod paths;
 mod rows;
 
-// The orders of a row, and the entries of a list.
+// The orders of a row.
 const M_LEN: usize = tables::N_MAX + 1;
-
-const N_COEFF: usize = tables::N_MAX * (tables::N_MAX + 3) / 2;
 
 // The pair of the geocentric colatitude.
 pub struct Colatitude {

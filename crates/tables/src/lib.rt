@@ -7,6 +7,9 @@ pub const N_MAX: usize = 12;
 
 pub const N_LEGENDRE: usize = (N_MAX + 1) * (N_MAX + 2) / 2;
 
+// The entries of a list of coefficients: the places of degree 1 and up.
+pub const N_COEFF: usize = N_MAX * (N_MAX + 3) / 2;
+
 // Schmidt semi-normalization factors, by their bits as in the source.
 const SCHMIDT_SEMI_NORM: [f32; N_LEGENDRE] = [
     f32::from_bits(0x3f800000),

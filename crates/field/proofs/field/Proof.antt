@@ -3,12 +3,11 @@ use mathlib.Core.Path.{_≡_, refl, sym, ap, _∙_}
 use mir.Syntax.{w32}
 use mir.ValLaws.{toZ-ofZ}
 use denote.Ref.{now}
-use Rattle.refusals.specs.Paper.{Paper}
+use Rattle.refusals.specs.declared.Verdict.the-variants as Verdict
 use Rattle.models.specs.Epochs.{said, epochSays}
-use Rattle.field.specs.declared.strengths.GeomagneticField.{GeomagneticField}
-use Rattle.field.specs.Field.{Asked, asked, placeSays}
+use Rattle.field.specs.Field.{Asked, asked}
 use Rattle.field.proofs.Laws.{accepted-at}
-use Rattle.field.proofs.Answers.{place-refused, place-passed, day-refused, day-answered, answer-close}
+use Rattle.field.proofs.Answers.{of-place, place-refused, day-refused, day-answered, answer-close}
 use borrow.Author.Needs.{needs}
 use Rattle.field.proofs.field.Statement.{statement}
 use Rattle.field.proofs.field.Tie as tie
@@ -22,7 +21,7 @@ enum-known-k c = search needs
 returns : tie.Need-returns
 returns c =
     let p = c .before .before .before in
-    let e = place-refused _ _ (p .check-place .ensures) _ _ _ (c .before .k .given .1) in
+    let e = place-refused _ _ _ _ (sym (p .check-place .ensures) ∙ c .before .k .given .1) in
     (e, (answer-close _ _ _ _ e, (refl, refl, refl, refl)))
 
 enum-told : tie.Need-enum-told
@@ -52,8 +51,8 @@ day-said c =
 abbrev starts : tie.After-enum-told → Asked
 starts c = asks (c .before .before .before .before .before .before .before)
 
-passed-place : (c : tie.After-enum-told) (q : Paper GeomagneticField) → q ≡ placeSays (starts c .height) (starts c .sin-phi) (starts c .cos-phi) (starts c .sin-lambda) (starts c .cos-lambda) q
-passed-place c = let p = c .before .before in place-passed (starts c) _ (p .check-place .ensures) (c .enum-told .given .1)
+passed-place : (c : tie.After-enum-told) → of-place (starts c) ≡ Verdict.Accepted
+passed-place c = sym (c .before .before .check-place .ensures) ∙ c .enum-told .given .1
 
 field-at-requires : tie.Need-field-at-requires
 field-at-requires c κs =

@@ -1,7 +1,8 @@
 -- `synthesis::sum` meets its contract: each return is a law of proofs/Checked.antt. Assumes nothing.
-use mathlib.Core.Path.{refl, sym}
+use mathlib.Core.Path.{refl}
 use borrow.Author.Needs.{needs}
-use Rattle.synthesis.proofs.Checked.{refused-numbers, refused-lists, summed, answer-accepted, answer-close, accepted-long}
+use Rattle.lists.proofs.Checked.{same, listed}
+use Rattle.synthesis.proofs.Checked.{accepted, refused-numbers, refused-lists, summed, answer-close}
 use Rattle.synthesis.proofs.sum.Statement.{statement}
 use Rattle.synthesis.proofs.sum.Tie as tie
 
@@ -14,7 +15,7 @@ enum-known-k c = search needs
 returns : tie.Need-returns
 returns c =
     let k = c .before .before .before in
-    let e = refused-numbers _ _ (k .check-numbers .ensures) _ (c .before .k .given .1) in
+    let e = refused-numbers _ _ (same (k .check-numbers .ensures) (c .before .k .given .1)) in
     (e, (answer-close _ _ e, (refl, refl, refl, refl)))
 
 enum-told : tie.Need-enum-told
@@ -31,7 +32,7 @@ returns-2 c =
     let l = c .before .before .before in
     let o = l .before in
     let k = o .before .before in
-    let e = refused-lists _ _ (k .check-numbers .ensures) (o .enum-told .given .1) _ (l .check-lists .ensures) _ (c .before .k2 .given .1) in
+    let e = refused-lists _ (same (k .check-numbers .ensures) (o .enum-told .given .1)) _ (same (l .check-lists .ensures .0) (c .before .k2 .given .1)) in
     (e, (answer-close _ _ e, (refl, refl, refl, refl)))
 
 enum-told-2 : tie.Need-enum-told-2
@@ -42,8 +43,10 @@ synthesize-geocentric-xyz-requires c κs =
     let l = c .before .before in
     let o = l .before in
     let k = o .before .before in
-    let e = summed _ _ (k .check-numbers .ensures) (o .enum-told .given .1) _ (l .check-lists .ensures) (c .enum-told2 .given .1) _ refl in
-    (accepted-long _ _ _ _ _ (l .check-lists .ensures) (c .enum-told2 .given .1), answer-accepted _ _ (sym e) .0)
+    let n = same (k .check-numbers .ensures) (o .enum-told .given .1) in
+    let e = same (l .check-lists .ensures .0) (c .enum-told2 .given .1) in
+    let w = listed _ _ _ _ e in
+    ((w .g-long, w .h-long, w .gd-long, w .hd-long), accepted _ n e)
 
 returns-3 : tie.Need-returns-3
 returns-3 c =
@@ -51,7 +54,7 @@ returns-3 c =
     let l = p .before .before in
     let o = l .before in
     let k = o .before .before in
-    let e = summed _ _ (k .check-numbers .ensures) (o .enum-told .given .1) _ (l .check-lists .ensures) (p .enum-told2 .given .1) _ (c .synthesize-geocentric-xyz .ensures) in
+    let e = summed _ (same (k .check-numbers .ensures) (o .enum-told .given .1)) (same (l .check-lists .ensures .0) (p .enum-told2 .given .1)) _ (c .synthesize-geocentric-xyz .ensures) in
     (e, (answer-close _ _ e, (refl, refl, refl, refl)))
 
 pub sum-spec : {M : Type 1} → statement M

@@ -15,7 +15,7 @@ outside-requires c κs = search needs
 returns : tie.Need-returns
 returns c =
     let a = c .before .before .args in
-    λ p. bad-height (a .height) (a .latitude .sin) (a .latitude .cos) (a .longitude .sin) (a .longitude .cos) p (not-true (heightOk (a .height)) (sym (c .before .outside .ensures) ∙ c .if1 .taken))
+    bad-height (a .height) (a .latitude .sin) (a .latitude .cos) (a .longitude .sin) (a .longitude .cos) (not-true (heightOk (a .height)) (sym (c .before .outside .ensures) ∙ c .if1 .taken))
 
 off-circle-requires : tie.Need-off-circle-requires
 off-circle-requires c κs = search needs
@@ -24,14 +24,14 @@ returns-2 : tie.Need-returns-2
 returns-2 c =
     let e1 = c .before .before in
     let a = e1 .before .before .args in
-    λ p. bad-latitude (a .height) (a .latitude .sin) (a .latitude .cos) (a .longitude .sin) (a .longitude .cos) p (not-false (heightOk (a .height)) (sym (e1 .before .outside .ensures) ∙ e1 .if1 .left)) (not-true (circle (a .latitude .sin) (a .latitude .cos)) (sym (c .before .off-circle .ensures) ∙ c .if2 .taken))
+    bad-latitude (a .height) (a .latitude .sin) (a .latitude .cos) (a .longitude .sin) (a .longitude .cos) (not-false (heightOk (a .height)) (sym (e1 .before .outside .ensures) ∙ e1 .if1 .left)) (not-true (circle (a .latitude .sin) (a .latitude .cos)) (sym (c .before .off-circle .ensures) ∙ c .if2 .taken))
 
 returns-3 : tie.Need-returns-3
 returns-3 c =
     let e2 = c .before .before in
     let e1 = e2 .before .before in
     let a = e1 .before .before .args in
-    λ p. behind (a .height) (a .latitude .sin) (a .latitude .cos) (a .longitude .sin) (a .longitude .cos) p (not-false (heightOk (a .height)) (sym (e1 .before .outside .ensures) ∙ e1 .if1 .left)) (not-false (circle (a .latitude .sin) (a .latitude .cos)) (sym (e2 .before .off-circle .ensures) ∙ e2 .if2 .left)) (not-true (le beyond-pole (a .latitude .cos)) (c .if3 .taken))
+    behind (a .height) (a .latitude .sin) (a .latitude .cos) (a .longitude .sin) (a .longitude .cos) (not-false (heightOk (a .height)) (sym (e1 .before .outside .ensures) ∙ e1 .if1 .left)) (not-false (circle (a .latitude .sin) (a .latitude .cos)) (sym (e2 .before .off-circle .ensures) ∙ e2 .if2 .left)) (not-true (le beyond-pole (a .latitude .cos)) (c .if3 .taken))
 
 off-circle-requires-2 : tie.Need-off-circle-requires-2
 off-circle-requires-2 c κs = search needs
@@ -42,7 +42,7 @@ returns-4 c =
     let e2 = e3 .before .before in
     let e1 = e2 .before .before in
     let a = e1 .before .before .args in
-    λ p. bad-longitude (a .height) (a .latitude .sin) (a .latitude .cos) (a .longitude .sin) (a .longitude .cos) p (not-false (heightOk (a .height)) (sym (e1 .before .outside .ensures) ∙ e1 .if1 .left)) (not-false (circle (a .latitude .sin) (a .latitude .cos)) (sym (e2 .before .off-circle .ensures) ∙ e2 .if2 .left)) (not-false (le beyond-pole (a .latitude .cos)) (e3 .if3 .left)) (not-true (circle (a .longitude .sin) (a .longitude .cos)) (sym (c .before .off-circle2 .ensures) ∙ c .if4 .taken))
+    bad-longitude (a .height) (a .latitude .sin) (a .latitude .cos) (a .longitude .sin) (a .longitude .cos) (not-false (heightOk (a .height)) (sym (e1 .before .outside .ensures) ∙ e1 .if1 .left)) (not-false (circle (a .latitude .sin) (a .latitude .cos)) (sym (e2 .before .off-circle .ensures) ∙ e2 .if2 .left)) (not-false (le beyond-pole (a .latitude .cos)) (e3 .if3 .left)) (not-true (circle (a .longitude .sin) (a .longitude .cos)) (sym (c .before .off-circle2 .ensures) ∙ c .if4 .taken))
 
 returns-5 : tie.Need-returns-5
 returns-5 c =
@@ -50,7 +50,7 @@ returns-5 c =
     let e2 = e3 .before .before in
     let e1 = e2 .before .before in
     let a = e1 .before .before .args in
-    λ p. good-place (a .height) (a .latitude .sin) (a .latitude .cos) (a .longitude .sin) (a .longitude .cos) p (not-false (heightOk (a .height)) (sym (e1 .before .outside .ensures) ∙ e1 .if1 .left)) (not-false (circle (a .latitude .sin) (a .latitude .cos)) (sym (e2 .before .off-circle .ensures) ∙ e2 .if2 .left)) (not-false (le beyond-pole (a .latitude .cos)) (e3 .if3 .left)) (not-false (circle (a .longitude .sin) (a .longitude .cos)) (sym (c .before .off-circle2 .ensures) ∙ c .if4 .left))
+    good-place (a .height) (a .latitude .sin) (a .latitude .cos) (a .longitude .sin) (a .longitude .cos) (not-false (heightOk (a .height)) (sym (e1 .before .outside .ensures) ∙ e1 .if1 .left)) (not-false (circle (a .latitude .sin) (a .latitude .cos)) (sym (e2 .before .off-circle .ensures) ∙ e2 .if2 .left)) (not-false (le beyond-pole (a .latitude .cos)) (e3 .if3 .left)) (not-false (circle (a .longitude .sin) (a .longitude .cos)) (sym (c .before .off-circle2 .ensures) ∙ c .if4 .left))
 
 pub check-place-spec : {M : Type 1} → statement M
 check-place-spec =

@@ -1,0 +1,185 @@
+-- The ways to a verdict, and what a verdict says of what is lent. Assumes nothing.
+use mathlib.Core.Path.{_≡_, refl, sym, ap, subst, _∙_}
+use mathlib.Core.Bool.{Bool, true, false, not, _&&_}
+use mathlib.Core.List.{List, [], _∷_}
+use Prim.Native.Nat.{ℕ, suc, _+_, _<_}
+use native.Mathlib.Numerals.{add-one}
+use borrow.Author.Tests.{eqb-true, not-true, not-false}
+use lib.Dec.{T, eqb}
+use lib.IntN.{ℤ, pos}
+use lib.ListN.{length, getD, drop}
+use lib.Seq.{drop-cons}
+use lib.Ieee.{Float, nan, fin, neg, ofBits}
+use lib.Ieee.Fits.{and-l, and-r}
+use Rattle.exact.specs.Tests.{all-between, all-capped, between, capped}
+use Rattle.float32.proofs.Checks.{within-capped}
+use Rattle.refusals.specs.Paper.{check}
+use Rattle.refusals.specs.declared.Refusal.{Refusal}
+use Rattle.refusals.specs.declared.Refusal.the-variants.{Length, Coefficient}
+use Rattle.refusals.specs.declared.Verdict.{Verdict}
+use Rattle.refusals.specs.declared.Verdict.the-variants as Verdict
+use Rattle.refusals.proofs.Laws.{check-accepted, both-accepted}
+use Rattle.tables.specs.Degree.{N-COEFF}
+use Rattle.lists.specs.Lists.{entriesVerdict, listsVerdict, long, main-cap, rate-cap, withinOf}
+
+-- two facts of one result, as what a call ensures and what was found. Over variables, so that the places of the code are written out once
+pub same : {A : Type 0} {r l b : A} → r ≡ l → r ≡ b → l ≡ b
+same e h = sym e ∙ h
+
+pub holds : {b : Bool} → b ≡ true → T b
+holds e = subst T (sym e) tt
+
+-- ---- four tests, one after another
+module _ (a b c d : Bool) where
+  pub first-fails : a ≡ false → false ≡ a && b && c && d
+  first-fails e = rw e
+
+  pub second-fails : a ≡ true → b ≡ false → false ≡ a && b && c && d
+  second-fails e f = rw (e, f)
+
+  pub third-fails : a ≡ true → b ≡ true → c ≡ false → false ≡ a && b && c && d
+  third-fails e f g = rw (e, f, g)
+
+  pub last-decides : a ≡ true → b ≡ true → c ≡ true → d ≡ a && b && c && d
+  last-decides e f g = rw (e, f, g)
+
+-- ---- the search
+entries-next : (cap : Float) (k : ℕ) (s : List Float) (i : ℕ) → i < length s
+    → entriesVerdict cap k i (drop i s) ≡ check (capped cap (getD s i nan)) (Coefficient k i) (entriesVerdict cap k (i + 1) (drop (i + 1) s))
+unfolding entriesVerdict
+entries-next cap k s i h = rw (add-one, drop-cons s i nan h)
+
+module _ (cap : Float) (k : ℕ) (s : List Float) (i : ℕ) (q : Verdict) (h : i < length s) (e : q ≡ entriesVerdict cap k i (drop i s)) where
+  pub entry-bad : not (capped cap (getD s i nan)) ≡ true → Verdict.Refused (Coefficient k i) ≡ q
+  entry-bad n = sym (e ∙ entries-next cap k s i h ∙ rw (not-true (capped cap (getD s i nan)) n))
+
+  pub entry-good : not (capped cap (getD s i nan)) ≡ false → q ≡ entriesVerdict cap k (i + 1) (drop (i + 1) s)
+  entry-good n = e ∙ entries-next cap k s i h ∙ rw (not-false (capped cap (getD s i nan)) n)
+
+-- ---- all at once
+pub and-true : (b : Bool) → b && true ≡ b
+and-true true = refl
+and-true false = refl
+
+and-false : (b : Bool) → b && false ≡ false
+and-false true = refl
+and-false false = refl
+
+between-next : (lo hi : Float) (s : List Float) (i : ℕ) → i < length s → all-between lo hi (drop i s) ≡ between lo hi (getD s i nan) && all-between lo hi (drop (i + 1) s)
+unfolding all-between
+between-next lo hi s i h = rw (add-one, drop-cons s i nan h)
+
+module _ (lo hi : Float) (s : List Float) (i : ℕ) (ok all : Bool) (h : i < length s) (e : all ≡ ok && all-between lo hi (drop i s)) where
+  pub good-next : not (between lo hi (getD s i nan)) ≡ false → all ≡ ok && all-between lo hi (drop (i + 1) s)
+  good-next n =
+      let b : between lo hi (getD s i nan) ≡ true = not-false (between lo hi (getD s i nan)) n in
+      e ∙ ap (λ (t : Bool). ok && t) (between-next lo hi s i h ∙ ap (λ (t : Bool). t && all-between lo hi (drop (i + 1) s)) b)
+
+  pub bad-all : not (between lo hi (getD s i nan)) ≡ true → all ≡ false
+  bad-all n =
+      let b : between lo hi (getD s i nan) ≡ false = not-true (between lo hi (getD s i nan)) n in
+      e ∙ ap (λ (t : Bool). ok && t) (between-next lo hi s i h ∙ ap (λ (t : Bool). t && all-between lo hi (drop (i + 1) s)) b) ∙ and-false ok
+
+-- nothing over a cap: the search finds nothing
+entries-pass : (n : ℕ) (d : ℤ) (k i : ℕ) (l : List Float) → T (all-between (neg (fin false n d)) (fin false n d) l) → entriesVerdict (fin false n d) k i l ≡ Verdict.Accepted
+unfolding entriesVerdict all-between
+entries-pass n d k i [] t = refl
+entries-pass n d k i (x ∷ l) t =
+    let cap = fin false n d in
+    go (capped cap x) (entriesVerdict cap k (suc i) l) (within-capped n d x (and-l (between (neg cap) cap x) (all-between (neg cap) cap l) t))
+    (entries-pass n d k (suc i) l (and-r (between (neg cap) cap x) (all-between (neg cap) cap l) t))
+  where
+    go : (b : Bool) (q : Verdict) → T b → q ≡ Verdict.Accepted → check b (Coefficient k i) q ≡ Verdict.Accepted
+    go true q h e = e
+    go false q h e = absurd h
+
+main-pass : (k : ℕ) (l : List Float) → T (all-between (neg main-cap) main-cap l) → entriesVerdict main-cap k 0 l ≡ Verdict.Accepted
+unfolding ofBits
+main-pass k l t = entries-pass 1 (pos 16) k 0 l t
+
+rate-pass : (k : ℕ) (l : List Float) → T (all-between (neg rate-cap) rate-cap l) → entriesVerdict rate-cap k 0 l ≡ Verdict.Accepted
+unfolding ofBits
+rate-pass k l t = entries-pass 1 (pos 12) k 0 l t
+
+-- ---- the lists
+pub too-short : (g h gd hd : List Float) → long g h gd hd ≡ false → Verdict.Refused Length ≡ listsVerdict g h gd hd
+unfolding listsVerdict
+too-short g h gd hd e = rw e
+
+module _ (g h gd hd : List Float) (e : long g h gd hd ≡ true) where
+  pub lists-pass : withinOf g h gd hd ≡ true → Verdict.Accepted ≡ listsVerdict g h gd hd
+  unfolding listsVerdict withinOf
+  lists-pass w =
+      let a = all-between (neg main-cap) main-cap g in
+      let b = all-between (neg main-cap) main-cap h in
+      let c = all-between (neg rate-cap) rate-cap gd in
+      let d = all-between (neg rate-cap) rate-cap hd in
+      let t1 : T (a && b && c && d) = holds w in
+      let t2 = and-l (a && b && c) d t1 in
+      let t3 = and-l (a && b) c t2 in
+      rw (e, main-pass 0 g (and-l a b t3), main-pass 1 h (and-r a b t3), rate-pass 2 gd (and-r (a && b) c t2), rate-pass 3 hd (and-r (a && b && c) d t1))
+
+  pub bad-g : (k : Refusal) → entriesVerdict main-cap 0 0 g ≡ Verdict.Refused k → Verdict.Refused k ≡ listsVerdict g h gd hd
+  unfolding listsVerdict
+  bad-g k r = rw (e, r)
+
+  module _ (a0 : entriesVerdict main-cap 0 0 g ≡ Verdict.Accepted) where
+    pub bad-h : (k : Refusal) → entriesVerdict main-cap 1 0 h ≡ Verdict.Refused k → Verdict.Refused k ≡ listsVerdict g h gd hd
+    unfolding listsVerdict
+    bad-h k r = rw (e, a0, r)
+
+    module _ (a1 : entriesVerdict main-cap 1 0 h ≡ Verdict.Accepted) where
+      pub bad-gd : (k : Refusal) → entriesVerdict rate-cap 2 0 gd ≡ Verdict.Refused k → Verdict.Refused k ≡ listsVerdict g h gd hd
+      unfolding listsVerdict
+      bad-gd k r = rw (e, a0, a1, r)
+
+      pub last-list : entriesVerdict rate-cap 2 0 gd ≡ Verdict.Accepted → entriesVerdict rate-cap 3 0 hd ≡ listsVerdict g h gd hd
+      unfolding listsVerdict
+      last-list a2 = rw (e, a0, a1, a2)
+
+-- lists that nothing is refused of
+pub record Listed (g h gd hd : List Float) : Type 0 where
+  pub g-long : length g ≡ N-COEFF
+  pub h-long : length h ≡ N-COEFF
+  pub gd-long : length gd ≡ N-COEFF
+  pub hd-long : length hd ≡ N-COEFF
+  pub g-capped : T (all-capped main-cap g)
+  pub h-capped : T (all-capped main-cap h)
+  pub gd-capped : T (all-capped rate-cap gd)
+  pub hd-capped : T (all-capped rate-cap hd)
+
+entries-capped : (cap : Float) (k i : ℕ) (l : List Float) → entriesVerdict cap k i l ≡ Verdict.Accepted → T (all-capped cap l)
+unfolding entriesVerdict all-capped
+entries-capped cap k i [] e = tt
+entries-capped cap k i (x ∷ l) e =
+    let u = check-accepted (capped cap x) (Coefficient k i) (entriesVerdict cap k (suc i) l) e in
+    subst (λ (b : Bool). T (b && all-capped cap l)) (sym (u .0)) (entries-capped cap k (suc i) l (u .1))
+
+pub is-true : (b : Bool) → T b → b ≡ true
+is-true true t = refl
+is-true false t = absurd t
+
+pub listed : (g h gd hd : List Float) → listsVerdict g h gd hd ≡ Verdict.Accepted → Listed g h gd hd
+unfolding listsVerdict
+listed g h gd hd e =
+    let a = eqb (length g) N-COEFF in
+    let b = eqb (length h) N-COEFF in
+    let c = eqb (length gd) N-COEFF in
+    let d = eqb (length hd) N-COEFF in
+    let u = check-accepted (a && b && c && d) Length _ e in
+    let t1 : T (a && b && c && d) = holds (u .0) in
+    let t2 = and-l (a && b && c) d t1 in
+    let t3 = and-l (a && b) c t2 in
+    let q1 = both-accepted (entriesVerdict main-cap 0 0 g) _ (u .1) in
+    let q2 = both-accepted (entriesVerdict main-cap 1 0 h) _ (q1 .1) in
+    let q3 = both-accepted (entriesVerdict rate-cap 2 0 gd) _ (q2 .1) in
+    record {
+      g-long = eqb-true (length g) N-COEFF (is-true a (and-l a b t3));
+      h-long = eqb-true (length h) N-COEFF (is-true b (and-r a b t3));
+      gd-long = eqb-true (length gd) N-COEFF (is-true c (and-r (a && b) c t2));
+      hd-long = eqb-true (length hd) N-COEFF (is-true d (and-r (a && b && c) d t1));
+      g-capped = entries-capped main-cap 0 0 g (q1 .0);
+      h-capped = entries-capped main-cap 1 0 h (q2 .0);
+      gd-capped = entries-capped rate-cap 2 0 gd (q3 .0);
+      hd-capped = entries-capped rate-cap 3 0 hd (q3 .1);
+    }

@@ -1,0 +1,3 @@
+-- The laws of the lists' checks.
+pub mod Checked
+pub mod Unique

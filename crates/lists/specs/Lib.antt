@@ -1,0 +1,2 @@
+-- Definitions: Lists.
+pub mod Lists

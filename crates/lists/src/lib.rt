@@ -1,0 +1,94 @@
+// The checks of the four lent lists: refusals 6 and 7.
+use refusals::Refusal;
+use refusals::Verdict;
+use tables::N_COEFF;
+ghost use mathlib.Core.Path.{_≡_};
+ghost use lib.Ieee.{neg};
+ghost use Rattle.exact.specs.Tests.{all-between};
+ghost use Rattle.lists.specs.Lists.{entriesVerdict, listsVerdict, long, withinOf};
+
+// Caps on an entry's size: nT for the coefficients, nT a year for the rates.
+const MAIN_CAP: f32 = 65536.0;
+
+const RATE_CAP: f32 = 4096.0;
+
+// The search for the first entry over its cap. It runs only where there is one.
+fn check_entries(list: u8, s: &[f32], cap: f32) -> Verdict
+    ensures { λ r. ⌜ r ≡ entriesVerdict cap list 0 (now (s .entry)) ⌝ }
+{
+    let mut i = 0usize;
+    while i < s.len() {
+        if float32::over_cap(s[i], cap) {
+            return Verdict::Refused(Refusal::Coefficient { list, index: i });
+        }
+        i += 1;
+    }
+    Verdict::Accepted
+}
+
+// No early exit, so that it runs by lanes.
+fn all_within(s: &[f32], cap: f32) -> bool
+    ensures { λ r. ⌜ r ≡ all-between (neg cap) cap (now (s .entry)) ⌝ }
+{
+    let mut ok = true;
+    let mut i = 0usize;
+    while i < s.len() {
+        if float32::outside(s[i], -cap, cap) {
+            ok = false;
+        }
+        i += 1;
+    }
+    ok
+}
+
+fn lists_within(g: &[f32], h: &[f32], g_dot: &[f32], h_dot: &[f32]) -> bool
+    ensures { λ r. ⌜ r ≡ withinOf (now (g .entry)) (now (h .entry)) (now («g_dot» .entry)) (now («h_dot» .entry)) ⌝ }
+{
+    if !all_within(g, MAIN_CAP) {
+        return false;
+    }
+    if !all_within(h, MAIN_CAP) {
+        return false;
+    }
+    if !all_within(g_dot, RATE_CAP) {
+        return false;
+    }
+    all_within(h_dot, RATE_CAP)
+}
+
+fn lists_long(g: &[f32], h: &[f32], g_dot: &[f32], h_dot: &[f32]) -> bool
+    ensures { λ r. ⌜ r ≡ long (now (g .entry)) (now (h .entry)) (now («g_dot» .entry)) (now («h_dot» .entry)) ⌝ }
+{
+    if g.len() != N_COEFF {
+        return false;
+    }
+    if h.len() != N_COEFF {
+        return false;
+    }
+    if g_dot.len() != N_COEFF {
+        return false;
+    }
+    h_dot.len() == N_COEFF
+}
+
+pub fn check_lists(g: &[f32], h: &[f32], g_dot: &[f32], h_dot: &[f32]) -> Verdict
+    ensures answer { λ r. ⌜ r ≡ listsVerdict (now (g .entry)) (now (h .entry)) (now («g_dot» .entry)) (now («h_dot» .entry)) ⌝ }
+    ensures kept { λ _. ⌜ (now (g .exit) ≡ now (g .entry)) × (now (h .exit) ≡ now (h .entry)) × (now («g_dot» .exit) ≡ now («g_dot» .entry)) × (now («h_dot» .exit) ≡ now («h_dot» .entry)) ⌝ }
+{
+    if !lists_long(g, h, g_dot, h_dot) {
+        return Verdict::Refused(Refusal::Length);
+    }
+    if lists_within(g, h, g_dot, h_dot) {
+        return Verdict::Accepted;
+    }
+    if let Verdict::Refused(k) = check_entries(0, g, MAIN_CAP) {
+        return Verdict::Refused(k);
+    }
+    if let Verdict::Refused(k) = check_entries(1, h, MAIN_CAP) {
+        return Verdict::Refused(k);
+    }
+    if let Verdict::Refused(k) = check_entries(2, g_dot, RATE_CAP) {
+        return Verdict::Refused(k);
+    }
+    check_entries(3, h_dot, RATE_CAP)
+}

@@ -1,0 +1,6 @@
+-- The laws of the strengths.
+pub mod StrengthLaws
+pub mod StrengthSizes
+pub mod AtZero
+pub mod Room
+pub mod Unique

@@ -1,0 +1,3 @@
+-- Definitions: Strengths, Grid.
+pub mod Strengths
+pub mod Grid
