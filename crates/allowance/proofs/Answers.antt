@@ -17,7 +17,7 @@ use Rattle.field.proofs.Answers.{after-answered, day-found, found}
 use Rattle.allowance.specs.declared.Allowances.{Allowances}
 use Rattle.allowance.specs.declared.AllowanceAnswer.{AllowanceAnswer}
 use Rattle.allowance.specs.declared.AllowanceAnswer.the-variants as Answer
-use Rattle.allowance.specs.Bounds.{allowed}
+use Rattle.bounds.specs.Bounds.{allowed}
 use Rattle.allowance.specs.Code.{Long, majorantsOf, turnedOf}
 use Rattle.allowance.specs.Allowance.{Covered, allowancesOf, allowanceSays, said}
 use Rattle.allowance.proofs.Laws.{covered}

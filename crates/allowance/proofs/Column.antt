@@ -14,7 +14,7 @@ use Rattle.sums.specs.Paths.{placed}
 use Rattle.synthesis.specs.Sum.{Lent, inputs}
 use Rattle.sums.proofs.Step.{legendre-next}
 use Rattle.allowance.specs.declared.rows.PDp.{PDp}
-use Rattle.allowance.specs.Bounds.{bounds}
+use Rattle.bounds.specs.Bounds.{bounds}
 use Rattle.allowance.specs.Code.{pdp, qp}
 use Rattle.allowance.proofs.Lits.{abs-zero, abs-one}
 

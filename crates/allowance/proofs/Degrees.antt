@@ -12,7 +12,7 @@ use Rattle.sums.specs.Paths.{placed}
 use Rattle.synthesis.specs.Sum.{Lent, inputs}
 use Rattle.allowance.specs.declared.angles.SinCos.{SinCos}
 use Rattle.allowance.specs.declared.terms.Parts.{Parts}
-use Rattle.allowance.specs.Bounds.{bounds}
+use Rattle.bounds.specs.Bounds.{bounds}
 use Rattle.allowance.specs.Code.{degreeOf, general, nearPole, pairOf, partsOf, plusOf, poleDegree, rowSums, sinCos}
 use Rattle.allowance.proofs.Lits.{abs-zero}
 

@@ -18,7 +18,7 @@ use Rattle.field.specs.Field.{FieldAccepted, Asked, field-x, field-y, field-z, 
 use Rattle.field.proofs.Laws.{close}
 use Rattle.field.proofs.Answers.{found}
 use Rattle.allowance.specs.declared.Allowances.{Allowances}
-use Rattle.allowance.specs.Bounds.{Covers, LEAST, allowed, bounds}
+use Rattle.bounds.specs.Bounds.{Covers, LEAST, allowed, bounds}
 use Rattle.allowance.specs.Allowance.{allowancesOf, allowanceSays}
 use Rattle.allowance.proofs.Laws.{covers-x, covers-y, covers-z}
 

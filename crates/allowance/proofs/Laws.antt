@@ -15,11 +15,11 @@ use Rattle.field.proofs.Ceiling.{field-y-size, resized}
 use Rattle.lists.proofs.Checked.{Listed}
 use Rattle.field.specs.Field.{FieldAccepted, Asked, field-x, field-y, field-z}
 use Rattle.field.proofs.Laws.{field-x-image, field-x-near, field-y-image, field-y-near, field-z-image, field-z-near}
-use Rattle.allowance.specs.Bounds.{Covers, absolutes, allowed, bounds}
+use Rattle.bounds.specs.Bounds.{Covers, absolutes, allowed, bounds}
 use Rattle.allowance.specs.Allowance.{Covered, allowancesOf}
-use Rattle.allowance.proofs.Kept.{bounds-keep}
-use Rattle.allowance.proofs.Wholly.{wholly, wholly-hom}
-use Rattle.allowance.proofs.Shown.{covers, topA}
+use Rattle.bounds.proofs.Kept.{bounds-keep}
+use Rattle.bounds.proofs.Wholly.{wholly, wholly-hom}
+use Rattle.bounds.proofs.Shown.{covers, topA}
 
 -- a float near the exact size of M
 near-covers : (b : Float) (x : Exact) (M : Size) → wholly M ≡ x → Nr topA b x → Covers (allowed b) M

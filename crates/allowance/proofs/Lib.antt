@@ -4,9 +4,6 @@ pub mod Column
 pub mod Parts
 pub mod Degrees
 pub mod Majorants
-pub mod Kept
-pub mod Wholly
-pub mod Shown
 pub mod Laws
 pub mod Distance
 pub mod Answers

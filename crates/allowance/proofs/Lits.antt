@@ -3,7 +3,7 @@ use mathlib.Core.Path.{_≡_, sym, _∙_}
 use Prim.Native.Nat.{ℕ}
 use lib.Ieee.{binary32, ofInt, ofBits}
 use Rattle.exact.specs.Tests.{abs}
-use Rattle.float32.proofs.Signs.{abs-clear, clear-round}
+use Rattle.roots.proofs.Signs.{abs-clear, clear-round}
 use Rattle.sums.specs.Recurrence.{lit}
 use Rattle.synthesis.proofs.GeneralSum.{lit-zero, lit-one}
 

@@ -7,7 +7,7 @@ use Rattle.tables.specs.Degree.{N-MAX}
 use Rattle.synthesis.specs.declared.Xyz.{Xyz}
 use Rattle.synthesis.specs.Sum.{Lent, inputs}
 use Rattle.sums.specs.Paths.{placed, small-sine}
-use Rattle.allowance.specs.Bounds.{bounds}
+use Rattle.bounds.specs.Bounds.{bounds}
 use Rattle.allowance.specs.Code.{general, majorantsOf, nearPole}
 
 module _ (a : Lent) (u : Float) (eu : u ≡ abs (a .sin-theta)) where

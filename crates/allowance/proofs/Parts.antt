@@ -15,7 +15,7 @@ use Rattle.allowance.specs.declared.Point.{Point}
 use Rattle.allowance.specs.declared.angles.SinCos.{SinCos}
 use Rattle.allowance.specs.declared.rows.PDp.{PDp}
 use Rattle.allowance.specs.declared.terms.Parts.{Parts}
-use Rattle.allowance.specs.Bounds.{bounds}
+use Rattle.bounds.specs.Bounds.{bounds}
 use Rattle.allowance.specs.Code.{Long, lentAt, pairOf, partsOf, pdp}
 
 pub parts-are : (q : Point) (g h gd hd : List Float) (n m k : ℕ) (u : SinCos) (s gt ht : Float) (r : PDp)

@@ -9,7 +9,7 @@ use Rattle.field.specs.Field.{Asked, field-x, field-y, field-z, fieldSays}
 use Rattle.allowance.specs.declared.Allowances.{Allowances}
 use Rattle.allowance.specs.declared.AllowanceAnswer.{AllowanceAnswer}
 use Rattle.allowance.specs.declared.AllowanceAnswer.the-variants as Answer
-use Rattle.allowance.specs.Bounds.{bounds, allowed, Covers}
+use Rattle.bounds.specs.Bounds.{bounds, allowed, Covers}
 
 -- what is shown for the majorant of each component, for a day of epoch and offset e
 abbrev pub allowancesOf : Asked → EpochOffset → Allowances

@@ -15,7 +15,7 @@ use Rattle.allowance.specs.declared.Point.{Point}
 use Rattle.allowance.specs.declared.angles.SinCos.{SinCos}
 use Rattle.allowance.specs.declared.rows.PDp.{PDp}
 use Rattle.allowance.specs.declared.terms.Parts.{Parts}
-use Rattle.allowance.specs.Bounds.{bounds}
+use Rattle.bounds.specs.Bounds.{bounds}
 
 -- a sine and a cosine, and back
 abbrev pub sinCos : Pair Float → SinCos

@@ -1,4 +1,3 @@
--- Definitions: Bounds, Allowance, and Code, which the entry's contract does not cite.
-pub mod Bounds
+-- Definitions: Allowance, and Code, which the entry's contract does not cite.
 pub mod Code
 pub mod Allowance

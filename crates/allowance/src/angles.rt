@@ -1,7 +1,7 @@
 // Sines and cosines of multiples of the longitude, as bounds.
 ghost use mathlib.Core.Path.{_≡_};
 ghost use Rattle.sums.specs.Recurrence.{angle, pole-angle};
-ghost use Rattle.allowance.specs.Bounds.{bounds};
+ghost use Rattle.bounds.specs.Bounds.{bounds};
 ghost use Rattle.allowance.specs.Code.{sinCos};
 
 pub struct SinCos {

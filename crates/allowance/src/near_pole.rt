@@ -12,7 +12,7 @@ ghost use Prim.Native.Nat.{_+_, _<_};
 ghost use Rattle.tables.specs.Degree.{N-MAX};
 ghost use Rattle.sums.specs.Recurrence.{quotient};
 ghost use Rattle.synthesis.specs.Sum.{Lent, inputs};
-ghost use Rattle.allowance.specs.Bounds.{bounds};
+ghost use Rattle.bounds.specs.Bounds.{bounds};
 ghost use Rattle.allowance.specs.Code.{Long, lentAt, nearPole, poleDegree};
 
 // Q of degree j + 1.

@@ -5,7 +5,7 @@ ghost use Prim.Native.Nat.{_<_, _≤_};
 ghost use Rattle.tables.specs.Degree.{M-LEN, N-LEGENDRE, place};
 ghost use Rattle.sums.specs.Recurrence.{legendre, step};
 ghost use Rattle.synthesis.specs.Sum.{Lent, inputs};
-ghost use Rattle.allowance.specs.Bounds.{bounds};
+ghost use Rattle.bounds.specs.Bounds.{bounds};
 ghost use Rattle.allowance.specs.Code.{pdp, qp};
 
 pub struct PDp {

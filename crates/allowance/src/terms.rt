@@ -8,7 +8,7 @@ ghost use Prim.Native.Nat.{_<_, _≤_};
 ghost use Rattle.exact.specs.Tests.{abs};
 ghost use Rattle.tables.specs.Degree.{M-LEN};
 ghost use Rattle.sums.specs.Recurrence.{coefficient};
-ghost use Rattle.allowance.specs.Bounds.{bounds};
+ghost use Rattle.bounds.specs.Bounds.{bounds};
 ghost use Rattle.allowance.specs.Code.{Long, lentAt, pairOf, partsOf};
 
 // g cos + h sin and g sin + h cos, s·P and s·dP.

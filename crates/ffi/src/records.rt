@@ -1,13 +1,13 @@
 // The strengths over three components, grid variation, and the square root.
-use float32::RootAnswer;
 use models::WmmErrorModel;
 use refusals::number;
+use roots::RootAnswer;
 use strengths::GeomagneticField;
 use strengths::GridAnswer;
 use strengths::StrengthAnswer;
 use strengths::ZoneAnswer;
 ghost use mathlib.Core.Path.{_≡_};
-ghost use Rattle.float32.specs.Answer.{rootSays};
+ghost use Rattle.roots.specs.Answer.{rootSays};
 ghost use Rattle.strengths.specs.Strengths.{hOf, fOf, strengthSays, zoneSays, uncertaintySays};
 ghost use Rattle.strengths.specs.Grid.{gridSays};
 ghost use Rattle.ffi.specs.Told.{numberOf, result, itself, zoneNumber, isGiven, variationPlace, bare};
@@ -129,7 +129,7 @@ pub extern "C" fn njerumoy_square_root(x: f32, root: &mut f32) -> u32
     ensures { λ r. ⌜ (let p = rootSays x in
         (r ≡ numberOf p) × (now (root .exit) ≡ result itself (now (root .entry)) p)) ⌝ }
 {
-    match float32::square_root(x) {
+    match roots::square_root(x) {
         RootAnswer::Root(r) => {
             *root = r;
             0

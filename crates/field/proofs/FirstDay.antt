@@ -10,7 +10,7 @@ use lib.Ieee.Scale.{finite}
 use Rattle.exact.specs.Tests.{capped}
 use Rattle.exact.proofs.Near.{finite-is}
 use Rattle.exact.proofs.Ranks.{Leaf}
-use Rattle.float32.specs.Root.{sqrtOf}
+use Rattle.roots.specs.Root.{sqrtOf}
 use Rattle.refusals.specs.Paper.{answered}
 use Rattle.models.specs.declared.epochs.EpochOffset.{EpochOffset}
 use Rattle.models.specs.Epochs.{epochYear, epochOffset, offsetOf}

@@ -14,8 +14,8 @@ use lib.Ieee.Positive.{num, den, positive, den-pos, value→cross, positive-of-v
 use lib.Ieee.Order.{round-mono}
 use lib.Ieee.Scale.{finite}
 use Rattle.exact.specs.Tests.{between}
-use Rattle.float32.specs.Root.{clear}
-use Rattle.float32.proofs.Signs.{clear-round}
+use Rattle.roots.specs.Root.{clear}
+use Rattle.roots.proofs.Signs.{clear-round}
 use Rattle.models.specs.Epochs.{naturalOffset}
 use Rattle.models.specs.Dated.{Dated}
 use Rattle.models.specs.declared.epochs.EpochOffset.{EpochOffset}

@@ -1,14 +1,4 @@
--- Laws that other crates cite: `Checks`, `Bits`, `Signs`, `Laws`, `Answer`. The rest lead to them.
+-- Laws that other crates cite.
 pub mod Checks
 pub mod Bits
-mod Squares
-mod Whole
-mod Powers
-mod Patterns
-mod Floats
-mod Spacing
-pub mod Signs
-pub mod Laws
-pub mod Answer
-mod Vectors
 pub mod Unique

@@ -1,6 +1,5 @@
 -- Every public contract leaves one result: each law is over what the kit makes of the function's `ensures`.
 use mathlib.Core.Path.{refl}
-use Rattle.float32.proofs.Answer.{root-answer-one}
 use Rattle.refusals.specs.OneResult.{OneResult}
 use Rattle.float32.proofs.is_finite as is-finite-fn
 use Rattle.float32.proofs.abs as abs-fn
@@ -9,9 +8,6 @@ use Rattle.float32.proofs.outside as outside-fn
 use Rattle.float32.proofs.off_circle as off-circle-fn
 use Rattle.float32.proofs.to_bits as to-bits-fn
 use Rattle.float32.proofs.from_bits as from-bits-fn
-use Rattle.float32.proofs.sqrt as sqrt-fn
-use Rattle.float32.proofs.sqrt_by_guess as sqrt-by-guess-fn
-use Rattle.float32.proofs.square_root as square-root-fn
 
 pub is-finite : OneResult is-finite-fn.Kinds.ps is-finite-fn.Kinds.r is-finite-fn.Reads.Post
 is-finite κs a x y u v p q = (cc, refl)
@@ -33,12 +29,3 @@ to-bits κs a x y u v p q = (cc, refl)
 
 pub from-bits : OneResult from-bits-fn.Kinds.ps from-bits-fn.Kinds.r from-bits-fn.Reads.Post
 from-bits κs a x y u v p q = (cc, refl)
-
-pub sqrt : OneResult sqrt-fn.Kinds.ps sqrt-fn.Kinds.r sqrt-fn.Reads.Post
-sqrt κs a x y u v p q = (cc, refl)
-
-pub sqrt-by-guess : OneResult sqrt-by-guess-fn.Kinds.ps sqrt-by-guess-fn.Kinds.r sqrt-by-guess-fn.Reads.Post
-sqrt-by-guess κs a x y u v p q = (cc, refl)
-
-pub square-root : OneResult square-root-fn.Kinds.ps square-root-fn.Kinds.r square-root-fn.Reads.Post
-square-root κs a x y u v p q = (root-answer-one _ x y p q, refl)

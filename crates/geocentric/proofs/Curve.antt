@@ -16,7 +16,7 @@ use Rattle.exact.proofs.Reach.{within}
 use Rattle.exact.proofs.Ranks.{Abs, Nr, Leaf, leafA, addA, mulA, fine-ok, nr-mul, nr-add, nr-sub}
 use Rattle.exact.proofs.Sizes.{own-size, own-over}
 use Rattle.exact.proofs.Circle.{circle-leaf}
-use Rattle.float32.specs.Root.{sqrtOf}
+use Rattle.roots.specs.Root.{sqrtOf}
 use Rattle.geocentric.specs.Geo.{one, wgs84-a, wgs84-e2, flatness, curve, cosine-factor, sine-factor, heightOk}
 use Rattle.geocentric.proofs.Fractions.{mk, mk-eq, own-above, Between, of-within, held, at-most}
 use Rattle.geocentric.proofs.Squares.{one-part, square-plus}

@@ -17,7 +17,7 @@ use Rattle.exact.proofs.Reach.{within}
 use Rattle.exact.proofs.Ranks.{Abs, Nr, leafA, addA, mulA, fine-ok, nr-mul, nr-add, fine}
 use Rattle.exact.proofs.Sizes.{AtMost}
 use Rattle.exact.proofs.Circle.{circle-bottom, circle-top, circle-of}
-use Rattle.float32.proofs.Laws.{is-root}
+use Rattle.roots.proofs.Laws.{is-root}
 use Rattle.geocentric.specs.Geo.{squares, lengthOf}
 use Rattle.geocentric.proofs.Fractions.{mk, mk-eq, num-pos, Between, of-within, off}
 use Rattle.geocentric.proofs.Root.{rooted, Rooted, root-le}

@@ -10,8 +10,8 @@ use lib.Ieee.{Float, binary32, fits}
 use lib.Ieee.Positive.{num, den, positive, den-pos, value→cross}
 use Rattle.exact.specs.Exact.{unitsOf}
 use Rattle.exact.proofs.Frac.{by-le}
-use Rattle.float32.specs.Root.{sqrtOf}
-use Rattle.float32.proofs.Laws.{own-units, squared, is-root}
+use Rattle.roots.specs.Root.{sqrtOf}
+use Rattle.roots.proofs.Laws.{own-units, squared, is-root}
 use Rattle.geocentric.proofs.Fractions.{Between, num-pos}
 
 -- ---- the root's square, from units of the smallest f32 to fractions

@@ -15,8 +15,8 @@ use lib.Ieee.Scale.{finite}
 use Rattle.exact.specs.Tests.{abs}
 use Rattle.exact.proofs.Sizes.{or-le, or-ge, own-size, own-over}
 use Rattle.exact.proofs.Range.{round-neg, round-fit, Holds}
-use Rattle.float32.specs.Root.{clear}
-use Rattle.float32.proofs.Signs.{abs-clear, clear-round}
+use Rattle.roots.specs.Root.{clear}
+use Rattle.roots.proofs.Signs.{abs-clear, clear-round}
 use Rattle.geocentric.specs.Geo.{beyond-pole}
 use Rattle.geocentric.proofs.Fractions.{num-pos}
 use Rattle.geocentric.proofs.Steps.{sign, div-at}

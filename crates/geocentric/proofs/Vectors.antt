@@ -5,7 +5,7 @@ use Prim.Native.Nat.{ℕ}
 use lib.Dec.{T, eqb}
 use lib.Ieee.{binary32, ofBits, toBits, neg, le, lt, eq, add, sub, mul, div}
 use Rattle.exact.specs.Tests.{circle}
-use Rattle.float32.specs.Root.{sqrtOf}
+use Rattle.roots.specs.Root.{sqrtOf}
 use Rattle.geocentric.specs.Geo.{flatness, curve, cosine-factor, sine-factor, cylinder, axis, radiusOf, cosOf, sinOf, ratioOf, heightOk, latitudeOk}
 
 record Vector : Type 0 where

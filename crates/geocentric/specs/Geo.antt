@@ -3,7 +3,7 @@
 use mathlib.Core.Bool.{Bool, _&&_}
 use lib.Ieee.{Float, binary32, ofBits, neg, add, sub, mul, div, le}
 use Rattle.exact.specs.Tests.{between, circle}
-use Rattle.float32.specs.Root.{sqrtOf}
+use Rattle.roots.specs.Root.{sqrtOf}
 use Rattle.geocentric.specs.declared.Geocentric.{Geocentric}
 
 -- ---- the constants, by their bits

@@ -1,5 +1,5 @@
 // Guesses at the two roots of the geocentric step. They are there for speed, and nothing is claimed
-// of them: `float32::sqrt_by_guess` tests each. At an accepted place nearly all pass.
+// of them: `roots::sqrt_by_guess` tests each. At an accepted place nearly all pass.
 
 // At the root of a number from 0.993 to 1, by its series about 1. The last two factors are fitted.
 pub fn near_one(x: f32) -> f32 {

@@ -37,11 +37,11 @@ pub fn geodetic_to_geocentric(height: f32, sin_phi: f32, cos_phi: f32) -> Geocen
     ensures { λ r. ⌜ r ≡ geocentricOf height «sin_phi» «cos_phi» ⌝ }
 {
     let w = 1.0 - WGS84_E2 * sin_phi * sin_phi;
-    let r_c = WGS84_A / float32::sqrt_by_guess(w, near_one(w));
+    let r_c = WGS84_A / roots::sqrt_by_guess(w, near_one(w));
     let p = (r_c + height) * cos_phi;
     let z = (r_c * (1.0 - WGS84_E2) + height) * sin_phi;
     let r_squared = p * p + z * z;
-    let r = float32::sqrt_by_guess(r_squared, near_radius(r_squared));
+    let r = roots::sqrt_by_guess(r_squared, near_radius(r_squared));
     Geocentric {
         r: r,
         cos_theta: z / r,

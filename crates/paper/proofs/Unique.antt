@@ -2,7 +2,8 @@
 -- the kit makes of the function's own `ensures` (`OneResult`, refusals/specs/OneResult.antt). It stands in the function's crate, in proofs/Unique.antt, so
 -- that a weaker contract is refused there; here all are listed.
 pub use Rattle.refusals.proofs.Unique.{number}
-pub use Rattle.float32.proofs.Unique.{is-finite, abs, over-cap, outside, off-circle, to-bits, from-bits, sqrt, sqrt-by-guess, square-root}
+pub use Rattle.float32.proofs.Unique.{is-finite, abs, over-cap, outside, off-circle, to-bits, from-bits}
+pub use Rattle.roots.proofs.Unique.{sqrt, sqrt-by-guess, square-root}
 pub use Rattle.tables.proofs.Unique.{schmidt-table, k-table}
 pub use Rattle.models.proofs.Unique.{known-epoch, epoch, error-model-by-epoch-year}
 pub use Rattle.geocentric.proofs.Unique.{geodetic-to-geocentric, radius-ratio}

@@ -5,7 +5,7 @@ use Prim.Native.Nat.{ℕ}
 use lib.IntN.{pos}
 use lib.Ieee.{Float, binary32, ofBits, ofInt, round, sum, add, sub, mul, neg, div, lt, le, eq}
 use Rattle.exact.specs.Tests.{circle, capped}
-use Rattle.float32.specs.Root.{sqrtOf}
+use Rattle.roots.specs.Root.{sqrtOf}
 use Rattle.refusals.specs.Paper.{Paper, answered}
 use Rattle.models.specs.Calendar.{leapYear}
 use Rattle.models.specs.Epochs.{dayExists, epochYear, knownEpoch, offsetOf, epochSays}

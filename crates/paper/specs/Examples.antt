@@ -7,7 +7,7 @@ use lib.IntN.{ℤ, pos}
 use lib.ListN.{replicate, set, getD}
 use lib.Ieee.{Float, binary32, ofBits, toBits, ofInt, round, sum, add, sub, mul, neg, div, lt, le, eq}
 use Rattle.exact.specs.Tests.{circle, capped}
-use Rattle.float32.specs.Root.{sqrtOf}
+use Rattle.roots.specs.Root.{sqrtOf}
 use Rattle.refusals.specs.Paper.{Paper, answered, refused}
 use Rattle.models.specs.Calendar.{leapYear}
 use Rattle.models.specs.declared.epochs.EpochOffset.{EpochOffset}

@@ -10,15 +10,15 @@ use crate::replies::OK;
 use crate::replies::Reply;
 use crate::sets;
 use crate::sets::Set;
-use float32::RootAnswer;
 use models::EpochAnswer;
 use refusals::Day;
+use roots::RootAnswer;
 use synthesis::Colatitude;
 use synthesis::Longitude;
 use synthesis::SumAnswer;
 
 fn root(line: &[u8]) -> Reply {
-    match float32::square_root(read::float(line, 4)) {
+    match roots::square_root(read::float(line, 4)) {
         RootAnswer::Root(r) => replies::few(OK, replies::float(r), END, END, END, END),
         RootAnswer::Refused(why) => replies::refusal(why),
     }

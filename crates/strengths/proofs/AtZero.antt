@@ -9,7 +9,7 @@ use lib.IntN.{ℤ}
 use lib.Ieee.{Float, nan, inf, fin, binary32, up, down, unlike, ofBits, add, mul, div, lt, eq}
 use lib.Ieee.Fits.{up-pos, and-l}
 use lib.Ieee.Scale.{finite}
-use Rattle.float32.specs.Root.{sqrtOf}
+use Rattle.roots.specs.Root.{sqrtOf}
 use Rattle.refusals.specs.Paper.{answered}
 use Rattle.models.specs.Epochs.{knownEpoch}
 use Rattle.models.specs.Errors.{errorModel}

@@ -16,9 +16,9 @@ use Rattle.exact.proofs.Ranks.{Abs, Leaf, leafA, addA, mulA, okA, fine-ok, nr-m
 use Rattle.exact.proofs.Reach.{near-size}
 use Rattle.exact.proofs.Sizes.{size-leaf}
 use Rattle.exact.specs.Tests.{capped}
-use Rattle.float32.specs.Root.{clear, IsRoot}
-use Rattle.float32.proofs.Signs.{abs-clear, clear-square, clear-add}
-use Rattle.float32.proofs.Laws.{exact-root, root-kept, root-le}
+use Rattle.roots.specs.Root.{clear, IsRoot}
+use Rattle.roots.proofs.Signs.{abs-clear, clear-square, clear-add}
+use Rattle.roots.proofs.Laws.{exact-root, root-kept, root-le}
 use Rattle.strengths.specs.declared.GeomagneticField.{GeomagneticField}
 use Rattle.strengths.specs.Strengths.{max-component, usable, hypotOf, hOf, fOf}
 

@@ -3,7 +3,7 @@ use mathlib.Core.Bool.{Bool, _&&_, cond}
 use lib.IntN.{ℤ}
 use lib.Ieee.{Float, binary32, ofBits, add, mul, div, lt}
 use Rattle.exact.specs.Tests.{capped}
-use Rattle.float32.specs.Root.{sqrtOf}
+use Rattle.roots.specs.Root.{sqrtOf}
 use Rattle.refusals.specs.Paper.{Paper, answered, paper, unless}
 use Rattle.refusals.specs.declared.Refusal.the-variants.{Unusable}
 use Rattle.models.specs.declared.errors.WmmErrorModel.{WmmErrorModel}

@@ -44,7 +44,7 @@ pub enum ZoneAnswer {
 fn hypot(a: f32, b: f32) -> f32
     ensures { λ r. ⌜ r ≡ hypotOf a b ⌝ }
 {
-    float32::sqrt(a * a + b * b)
+    roots::sqrt(a * a + b * b)
 }
 
 // A root that is no number below 180, as at H = 0, is shown as 180.

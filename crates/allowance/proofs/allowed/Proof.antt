@@ -1,6 +1,6 @@
 -- `allowance::allowed` meets its contract. Assumes nothing.
 use mathlib.Core.Path.{refl}
-use Rattle.allowance.specs.Bounds.{allowed}
+use Rattle.bounds.specs.Bounds.{allowed}
 use Rattle.allowance.proofs.allowed.Statement.{statement}
 use Rattle.allowance.proofs.allowed.Tie as tie
 

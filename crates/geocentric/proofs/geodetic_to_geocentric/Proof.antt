@@ -1,4 +1,4 @@
--- `geocentric::geodetic_to_geocentric` meets its contract: the two roots are what `float32::sqrt_by_guess` promises, whatever the guesses. Assumes nothing.
+-- `geocentric::geodetic_to_geocentric` meets its contract: the two roots are what `roots::sqrt_by_guess` promises, whatever the guesses. Assumes nothing.
 use mathlib.Core.Path.{refl}
 use borrow.Author.Needs.{needs}
 use Rattle.geocentric.specs.Geo.{flatness, curve, cosine-factor, sine-factor, cylinder, axis, radiusOf, cosOf, sinOf, geocentricOf}

@@ -2,7 +2,7 @@
 use borrow.Author.Needs.{needs}
 use borrow.Author.Tests.{eq-eqb, ne-eqb}
 use Rattle.sums.specs.Recurrence.{pole-angle}
-use Rattle.allowance.specs.Bounds.{bounds}
+use Rattle.bounds.specs.Bounds.{bounds}
 use Rattle.allowance.proofs.Lits.{abs-zero, abs-one}
 use Rattle.allowance.proofs.angles.pole_sin_cos.Statement.{statement}
 use Rattle.allowance.proofs.angles.pole_sin_cos.Tie as tie

@@ -5,7 +5,7 @@ use native.Mathlib.Numerals.{add-one}
 use native.Mathlib.Omega.{arith}
 use borrow.Author.Needs.{needs}
 use Rattle.sums.specs.Recurrence.{angle}
-use Rattle.allowance.specs.Bounds.{bounds}
+use Rattle.bounds.specs.Bounds.{bounds}
 use Rattle.allowance.proofs.Lits.{abs-zero, abs-one}
 use Rattle.allowance.proofs.angles.sin_cos_m_lambda.Statement.{statement}
 use Rattle.allowance.proofs.angles.sin_cos_m_lambda.Tie as tie

@@ -4,7 +4,7 @@ use native.Mathlib.Omega.{arith}
 use lib.Dec.{le→leb}
 use lib.Ieee.{inFloat}
 use Rattle.sums.specs.Recurrence.{lit}
-use Rattle.allowance.specs.Bounds.{bounds}
+use Rattle.bounds.specs.Bounds.{bounds}
 use Rattle.allowance.specs.Code.{degreeOf}
 use Rattle.allowance.proofs.Lits.{abs-one, lit-size}
 use Rattle.allowance.proofs.general.degree_part.Statement.{statement}

@@ -1,6 +1,6 @@
 -- `allowance::general::plus` meets its contract. Assumes nothing.
 use mathlib.Core.Path.{refl}
-use Rattle.allowance.specs.Bounds.{bounds}
+use Rattle.bounds.specs.Bounds.{bounds}
 use Rattle.allowance.specs.Code.{plusOf}
 use Rattle.allowance.proofs.general.plus.Statement.{statement}
 use Rattle.allowance.proofs.general.plus.Tie as tie

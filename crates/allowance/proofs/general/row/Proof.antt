@@ -4,7 +4,7 @@ use Prim.Native.Nat.{suc, _+_, _-_, _≤_}
 use native.Mathlib.Numerals.{add-one}
 use native.Mathlib.Omega.{arith}
 use Rattle.sums.specs.Recurrence.{total, x-row, y-row, z-row}
-use Rattle.allowance.specs.Bounds.{bounds}
+use Rattle.bounds.specs.Bounds.{bounds}
 use Rattle.allowance.specs.Code.{lentAt, plusOf}
 use Rattle.allowance.proofs.Degrees.{firstOrders}
 use Rattle.allowance.proofs.Lits.{abs-zero}

@@ -7,7 +7,7 @@ use lib.Ieee.{inFloat}
 use Rattle.sums.specs.Recurrence.{gc-hs, gs-hc, lit}
 use Rattle.sums.specs.Paths.{placed}
 use Rattle.synthesis.specs.Sum.{inputs}
-use Rattle.allowance.specs.Bounds.{bounds}
+use Rattle.bounds.specs.Bounds.{bounds}
 use Rattle.allowance.specs.Code.{partsOf}
 use Rattle.allowance.proofs.Lits.{lit-size}
 use Rattle.allowance.proofs.general.term.Statement.{statement}

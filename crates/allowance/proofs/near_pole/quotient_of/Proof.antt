@@ -8,7 +8,7 @@ use Rattle.sums.specs.Recurrence.{quotient}
 use Rattle.sums.specs.Paths.{placed}
 use Rattle.synthesis.specs.Sum.{Lent, inputs}
 use Rattle.synthesis.proofs.GeneralSum.{k-place}
-use Rattle.allowance.specs.Bounds.{bounds}
+use Rattle.bounds.specs.Bounds.{bounds}
 use Rattle.allowance.proofs.Lits.{abs-one}
 use borrow.Author.Needs.{needs}
 use Rattle.allowance.proofs.near_pole.quotient_of.Statement.{statement}

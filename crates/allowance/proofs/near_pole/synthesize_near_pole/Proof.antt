@@ -6,7 +6,7 @@ use Rattle.tables.specs.Degree.{N-MAX}
 use Rattle.sums.specs.Recurrence.{pole-x, pole-y, pole-z, power, total}
 use Rattle.sums.specs.Paths.{placed}
 use Rattle.synthesis.specs.Sum.{inputs}
-use Rattle.allowance.specs.Bounds.{bounds}
+use Rattle.bounds.specs.Bounds.{bounds}
 use Rattle.allowance.specs.Code.{lentAt, nearPole}
 use Rattle.allowance.proofs.Lits.{abs-zero}
 use Rattle.allowance.proofs.Degrees.{more-power, more-pole-degrees}

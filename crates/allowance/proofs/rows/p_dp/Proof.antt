@@ -3,7 +3,7 @@ use mathlib.Core.Path.{_≡_, ap, _∙_}
 use Prim.Native.Nat.{_≤_, _-_}
 use native.Mathlib.Omega.{arith}
 use borrow.Author.Needs.{needs}
-use Rattle.allowance.specs.Bounds.{bounds}
+use Rattle.bounds.specs.Bounds.{bounds}
 use Rattle.exact.specs.Tests.{abs}
 use Rattle.synthesis.specs.Sum.{Lent, inputs}
 use Rattle.synthesis.proofs.GeneralSum.{k-place}

@@ -1,5 +1,5 @@
 -- `allowance::terms::coeff_at_t` meets its contract. Assumes nothing.
-use Rattle.allowance.specs.Bounds.{bounds}
+use Rattle.bounds.specs.Bounds.{bounds}
 use borrow.Author.Needs.{needs}
 use Rattle.allowance.proofs.terms.coeff_at_t.Statement.{statement}
 use Rattle.allowance.proofs.terms.coeff_at_t.Tie as tie

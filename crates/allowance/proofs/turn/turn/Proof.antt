@@ -1,7 +1,7 @@
 -- `allowance::turn::turn` meets its contract. Assumes nothing.
 use mathlib.Core.Path.{refl}
 use Rattle.field.specs.Turn.{turn-x, turn-z, sin-turn, cos-turn}
-use Rattle.allowance.specs.Bounds.{bounds}
+use Rattle.bounds.specs.Bounds.{bounds}
 use Rattle.allowance.specs.Code.{turnedOf}
 use borrow.Author.Needs.{needs}
 use Rattle.allowance.proofs.turn.turn.Statement.{statement}

@@ -1,7 +1,7 @@
 -- `ffi::records::njerumoy_square_root` meets its contract. Assumes nothing.
 use mathlib.Core.Path.{sym, ap, _∙_}
 use borrow.Author.Needs.{needs}
-use Rattle.float32.specs.Answer.{said}
+use Rattle.roots.specs.Answer.{said}
 use Rattle.ffi.specs.Told.{itself}
 use Rattle.ffi.proofs.Refused.{number-refused, kept-refused}
 use Rattle.ffi.proofs.Answered.{number-answered, written}

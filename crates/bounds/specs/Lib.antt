@@ -1,0 +1,2 @@
+-- Definitions: Bounds.
+pub mod Bounds
