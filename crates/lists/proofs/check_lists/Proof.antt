@@ -4,6 +4,8 @@ use mathlib.Core.Bool.{Bool, true, false, not}
 use borrow.Author.Tests.{not-true, not-false}
 use Rattle.lists.proofs.Checked.{same, too-short, lists-pass, bad-g, bad-h, bad-gd, last-list}
 use borrow.Author.Needs.{needs}
+use denote.Ref.{now}
+use Rattle.lists.specs.Lists.{entriesVerdict, main-cap}
 use Rattle.lists.proofs.check_lists.Statement.{statement}
 use Rattle.lists.proofs.check_lists.Tie as tie
 
@@ -53,7 +55,9 @@ returns-4 c =
     let t0 = f1 .before in
     let f0 = t0 .before .before in
     let o = f0 .before .before .before in
-    (bad-h _ _ _ _ (held (o .before .lists-long .ensures) (o .if1 .left)) (same (f0 .check-entries .ensures) (t0 .enum-told .given .1)) _ (same (f1 .check-entries2 .ensures) (c .before .k2 .given .1)), (refl, refl, refl, refl))
+    let h = now (o .before .before .before .before .before .before .args .h) in
+    let e : f1 .check-entries2 .result ≡ entriesVerdict main-cap 1 0 h = f1 .check-entries2 .ensures in
+    (bad-h _ _ _ _ (held (o .before .lists-long .ensures) (o .if1 .left)) (same (f0 .check-entries .ensures) (t0 .enum-told .given .1)) _ (same e (c .before .k2 .given .1)), (refl, refl, refl, refl))
 
 enum-told-2 : tie.Need-enum-told-2
 enum-told-2 c = search needs

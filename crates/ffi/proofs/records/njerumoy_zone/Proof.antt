@@ -1,6 +1,7 @@
 -- `ffi::records::njerumoy_zone` meets its contract. Assumes nothing.
 use mathlib.Core.Path.{_≡_, sym, ap, _∙_}
 use borrow.Author.Needs.{needs}
+use denote.Ref.{now}
 use Rattle.strengths.specs.Strengths.{zoneSaid, zoneSays}
 use Rattle.ffi.specs.Told.{zoneNumber, bare}
 use Rattle.ffi.proofs.Refused.{number-refused, kept-refused}
@@ -36,17 +37,17 @@ number-requires c κs = search needs
 returns : tie.Need-returns
 returns c =
     let e = sym (ap zoneSaid (c .enum-told .given .1)) ∙ says (c .before .before) in
-    (number-answered _ _ e, written _ _ e zoneNumber _)
+    (number-answered _ _ e, written _ _ e zoneNumber (now (c .before .before .before .before .args .zone)))
 
 returns-2 : tie.Need-returns-2
 returns-2 c =
     let e = sym (ap zoneSaid (c .enum-told2 .given .1)) ∙ says (c .before .before) in
-    (number-answered _ _ e, written _ _ e zoneNumber _)
+    (number-answered _ _ e, written _ _ e zoneNumber (now (c .before .before .before .before .args .zone)))
 
 returns-3 : tie.Need-returns-3
 returns-3 c =
     let e = sym (ap zoneSaid (c .enum-told3 .given .1)) ∙ says (c .before .before) in
-    (number-answered _ _ e, written _ _ e zoneNumber _)
+    (number-answered _ _ e, written _ _ e zoneNumber (now (c .before .before .before .before .args .zone)))
 
 returns-4 : tie.Need-returns-4
 returns-4 c =

@@ -1,6 +1,7 @@
 -- `ffi::sums::njerumoy_sum` meets its contract. Assumes nothing.
 use mathlib.Core.Path.{refl, sym, ap, _∙_}
 use borrow.Author.Needs.{needs}
+use denote.Ref.{now}
 use Rattle.synthesis.specs.Sum.{said}
 use Rattle.ffi.specs.Told.{sumFloats}
 use Rattle.ffi.proofs.Refused.{number-refused, kept-refused, entry-refused}
@@ -27,7 +28,8 @@ returns : tie.Need-returns
 returns c =
     let k = c .before .before in
     let e = sym (ap said (k .v .given .1)) ∙ k .before .before .sum .ensures .0 in
-    ((number-answered _ _ e, written _ _ e sumFloats _, entry-answered _ _ e _), (refl, refl, refl, refl))
+    let a = k .before .before .before .before .before .before .before .args in
+    ((number-answered _ _ e, written _ _ e sumFloats (now (a .xyz)), entry-answered _ _ e _), (refl, refl, refl, refl))
 
 returns-2 : tie.Need-returns-2
 returns-2 c =
