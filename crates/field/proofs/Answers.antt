@@ -6,7 +6,7 @@ use native.Mathlib.Omega.{arith}
 use borrow.Author.Tests.{eqb-true, eq-eqb}
 use lib.Dec.{eqb}
 use lib.IntN.{ℤ, pos, negsuc}
-use lib.Ieee.{Float, binary32, ofBits, neg, le}
+use lib.Ieee.{Float, le}
 use mir.Syntax.{w32}
 use mir.Val.{SFits, ofZ, toZ}
 use mir.ValLaws.{toZ-ofZ}
@@ -21,7 +21,7 @@ use Rattle.models.specs.declared.errors.WmmErrorModel.{WmmErrorModel}
 use Rattle.models.specs.Epochs.{unknownEpoch, wrongEpoch, dayExists, epochYear, epochSays, epochOffset, knownEpoch}
 use Rattle.models.specs.Errors.{errorModel, errorSays}
 use Rattle.geocentric.specs.declared.Geocentric.{Geocentric}
-use Rattle.geocentric.specs.Geo.{geocentricOf, ratioTo, ratioOf, heightOk}
+use Rattle.geocentric.specs.Geo.{beyond-pole, geocentricOf, ratioTo, ratioOf, heightOk}
 use Rattle.synthesis.specs.declared.Xyz.{Xyz}
 use Rattle.lists.specs.Lists.{listsVerdict}
 use Rattle.synthesis.specs.Sum.{Lent, lent, sumSays, valueOf}
@@ -35,10 +35,6 @@ use Rattle.exact.specs.Tests.{circle}
 use Rattle.field.specs.Turn.{turned}
 
 -- ---- the place
--- -2 ^ -20
-abbrev front : Float
-front = neg (ofBits binary32 0x35800000)
-
 module _ (h s c sl cl : Float) where
   pub bad-height : heightOk h ≡ false → Verdict.Refused outsideHeight ≡ placeVerdict h s c sl cl
   unfolding placeVerdict
@@ -50,11 +46,11 @@ module _ (h s c sl cl : Float) where
     bad-latitude f = rw (e, f)
 
     module _ (f : circle s c ≡ true) where
-      pub behind : le front c ≡ false → Verdict.Refused Latitude ≡ placeVerdict h s c sl cl
+      pub behind : le beyond-pole c ≡ false → Verdict.Refused Latitude ≡ placeVerdict h s c sl cl
       unfolding placeVerdict
       behind g = rw (e, f, g)
 
-      module _ (g : le front c ≡ true) where
+      module _ (g : le beyond-pole c ≡ true) where
         pub bad-longitude : circle sl cl ≡ false → Verdict.Refused Longitude ≡ placeVerdict h s c sl cl
         unfolding placeVerdict
         bad-longitude i = rw (e, f, g, i)

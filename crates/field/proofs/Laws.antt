@@ -19,7 +19,7 @@ use Rattle.exact.specs.Exact.{Exact}
 use Rattle.exact.proofs.Ranks.{Leaf, Nr}
 use Rattle.exact.proofs.Reach.{within}
 use Rattle.lists.proofs.Checked.{Listed, holds}
-use Rattle.synthesis.proofs.Checked.{numbers-pass}
+use Rattle.synthesis.proofs.Answers.{numbers-pass}
 use Rattle.exact.specs.Tests.{circle}
 use Rattle.geocentric.specs.Geo.{heightOk, latitudeOk}
 use Rattle.lists.specs.Lists.{listsVerdict}

@@ -10,6 +10,7 @@ use lib.IntN.{ℤ, pos}
 use lib.ListN.{length, getD, drop}
 use lib.Seq.{drop-cons}
 use lib.Ieee.{Float, nan, fin, neg, ofBits}
+use lib.Ieee.Bits.{is-true}
 use lib.Ieee.Fits.{and-l, and-r}
 use Rattle.exact.specs.Tests.{all-between, all-capped, between, capped}
 use Rattle.float32.proofs.Checks.{within-capped}
@@ -154,10 +155,6 @@ entries-capped cap k i [] e = tt
 entries-capped cap k i (x ∷ l) e =
     let u = check-accepted (capped cap x) (Coefficient k i) (entriesVerdict cap k (suc i) l) e in
     subst (λ (b : Bool). T (b && all-capped cap l)) (sym (u .0)) (entries-capped cap k (suc i) l (u .1))
-
-pub is-true : (b : Bool) → T b → b ≡ true
-is-true true t = refl
-is-true false t = absurd t
 
 pub listed : (g h gd hd : List Float) → listsVerdict g h gd hd ≡ Verdict.Accepted → Listed g h gd hd
 unfolding listsVerdict

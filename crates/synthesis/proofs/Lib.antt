@@ -6,7 +6,7 @@ pub mod RowsHold
 pub mod GeneralSum
 pub mod PoleSum
 pub mod NumberChecks
-pub mod Checked
+pub mod Answers
 pub mod LaneLaws
 pub mod AcceptedPlain
 pub mod Unique

@@ -44,17 +44,11 @@ module _ (ct st sl cl ratio offset : Float) where
         good-numbers h = rw (e, f, g, h)
 
   -- numbers that nothing is refused of
-  pub record Numbered : Type 0 where
-    pub colatitude : T (circle st ct)
-    pub longitude : T (circle sl cl)
-    pub ratio-fits : T (ratio-ok ratio)
-    pub offset-fits : T (offset-ok offset)
-
-  pub numbered : numbersVerdict ct st sl cl ratio offset ≡ Verdict.Accepted → Numbered
+  pub numbered : numbersVerdict ct st sl cl ratio offset ≡ Verdict.Accepted → T (circle st ct) × T (circle sl cl) × T (ratio-ok ratio) × T (offset-ok offset)
   unfolding numbersVerdict
   numbered e =
       let a = check-accepted (circle st ct) Colatitude _ e in
       let b = check-accepted (circle sl cl) Longitude _ (a .1) in
       let c = check-accepted (ratio-ok ratio) Ratio _ (b .1) in
       let d = check-accepted (offset-ok offset) Offset _ (c .1) in
-      record { colatitude = holds (a .0); longitude = holds (b .0); ratio-fits = holds (c .0); offset-fits = holds (d .0) }
+      (holds (a .0), holds (b .0), holds (c .0), holds (d .0))

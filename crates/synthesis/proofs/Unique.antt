@@ -1,6 +1,6 @@
 -- The public contract leaves one result: the law is over what the kit makes of its `ensures`.
 use mathlib.Core.Path.{refl}
-use Rattle.synthesis.proofs.Checked.{sum-answer-one}
+use Rattle.synthesis.proofs.Answers.{sum-answer-one}
 use Rattle.refusals.specs.OneResult.{OneResult}
 use Rattle.synthesis.proofs.sum as sum-fn
 

@@ -1,8 +1,8 @@
--- `synthesis::sum` meets its contract: each return is a law of proofs/Checked.antt. Assumes nothing.
+-- `synthesis::sum` meets its contract: each return is a law of proofs/Answers.antt. Assumes nothing.
 use mathlib.Core.Path.{refl}
 use borrow.Author.Needs.{needs}
 use Rattle.lists.proofs.Checked.{same, listed}
-use Rattle.synthesis.proofs.Checked.{accepted, refused-numbers, refused-lists, summed, answer-close}
+use Rattle.synthesis.proofs.Answers.{accepted, refused-numbers, refused-lists, summed, answer-close}
 use Rattle.synthesis.proofs.sum.Statement.{statement}
 use Rattle.synthesis.proofs.sum.Tie as tie
 

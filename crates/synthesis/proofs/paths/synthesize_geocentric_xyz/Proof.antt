@@ -1,5 +1,5 @@
 -- `synthesis::paths::synthesize_geocentric_xyz` meets its contract: the path by the size of the sine. Assumes nothing.
-use Rattle.synthesis.proofs.Checked.{value-pole, value-general}
+use Rattle.synthesis.proofs.Answers.{value-pole, value-general}
 use borrow.Author.Needs.{needs}
 use Rattle.synthesis.proofs.paths.synthesize_geocentric_xyz.Statement.{statement}
 use Rattle.synthesis.proofs.paths.synthesize_geocentric_xyz.Tie as tie

@@ -3,13 +3,14 @@ use mathlib.Core.Path.{_≡_, sym, ap, subst, _∙_}
 use mathlib.Core.Bool.{true, false}
 use lib.Dec.{T}
 use lib.Ieee.{Float, binary32, ofBits, lt, div}
+use lib.Ieee.Bits.{is-true}
 use Rattle.refusals.specs.Paper.{answered, paper, told}
 use Rattle.refusals.proofs.Laws.{paper-one, no-answer, answered-one, told-answered}
 use Rattle.refusals.specs.declared.Refusal.{Refusal}
 use Rattle.refusals.specs.declared.Verdict.{Verdict}
 use Rattle.refusals.specs.declared.Verdict.the-variants as Verdict
 use Rattle.lists.specs.Lists.{listsVerdict}
-use Rattle.lists.proofs.Checked.{is-true, listed}
+use Rattle.lists.proofs.Checked.{listed}
 use Rattle.synthesis.proofs.NumberChecks.{numbered}
 use Rattle.tables.specs.Degree.{N-MAX}
 use Rattle.synthesis.specs.declared.Xyz.{Xyz}
@@ -66,10 +67,10 @@ accepted a n e =
     let m = numbered (a .cos-theta) (a .sin-theta) (a .sin-lambda) (a .cos-lambda) (a .ratio) (a .offset) n in
     let w = listed (a .g) (a .h) (a .g-dot) (a .h-dot) e in
     record {
-      colatitude = m .colatitude;
-      longitude = m .longitude;
-      ratio = m .ratio-fits;
-      offset = m .offset-fits;
+      colatitude = m .0;
+      longitude = m .1;
+      ratio = m .2;
+      offset = m .3;
       g = w .g-capped;
       h = w .h-capped;
       g-dot = w .gd-capped;
