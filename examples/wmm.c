@@ -1,16 +1,19 @@
 /* The field at a place and a day, for people. The command ./wmm builds and runs it; ./wmm --help says
  * what its words mean. Sines, cosines and the declination are the C library's; the sets are the
- * published ones. */
+ * published ones, or the set of a coefficient file. */
 #include <errno.h>
 #include <math.h>
 #include <stdio.h>
 #include <stdlib.h>
+#include <string.h>
 
+#include "cof.h"
 #include "njerumoy_published.h"
 
 static const float DEGREE = 0.017453292519943295f; /* in radians */
 
-static const char USAGE[] = "usage: ./wmm LAT LON HEIGHT_M YEAR DAY   (./wmm --help says more)\n";
+static const char USAGE[] =
+    "usage: ./wmm [--cof FILE] LAT LON HEIGHT_M YEAR DAY   (./wmm --help says more)\n";
 
 static const char *const WORDS[] = {
     "an answer",
@@ -28,11 +31,17 @@ static const char *const WORDS[] = {
     "a number cannot be used: not finite, or out of range",
 };
 
+/* What is asked: degrees, metres, and a day. */
+struct question {
+    float lat, lon, height;
+    int32_t year, day;
+};
+
 /* What is printed. */
 struct shown {
     float xyz[3], errors[8], allowances[3], h, f, d, d_uncertainty, variation;
     uint32_t zone, given;
-    const struct njerumoy_set *set;
+    int32_t years[2];
     int near_pole;
 };
 
@@ -52,23 +61,34 @@ static int read_whole(const char *word, int32_t *number) {
     return 1;
 }
 
+static int read_question(char **words, struct question *q) {
+    return read_float(words[0], &q->lat) && read_float(words[1], &q->lon) &&
+           read_float(words[2], &q->height) && read_whole(words[3], &q->year) &&
+           read_whole(words[4], &q->day);
+}
+
 static struct njerumoy_pair pair(float degrees) {
     const struct njerumoy_pair p = {sinf(degrees * DEGREE), cosf(degrees * DEGREE)};
     return p;
 }
 
-/* The set of the day's epoch. Where the day has none, the set does not matter: Field's own refusal of
- * the day comes before it looks at the set. */
-static const struct njerumoy_set *set_of(int32_t year, int32_t day) {
+/* The epoch year of the day, or 0 where it has none. */
+static int32_t epoch_of(const struct question *q) {
     int32_t epoch_year = 0;
     float offset;
-    njerumoy_epoch(year, day, &epoch_year, &offset);
-    return epoch_year == NJERUMOY_WMM2020.epoch_year ? &NJERUMOY_WMM2020 : &NJERUMOY_WMM2025;
+    njerumoy_epoch(q->year, q->day, &epoch_year, &offset);
+    return epoch_year;
+}
+
+/* The published set of the day's epoch. Where the day has none, the set does not matter: Field's own
+ * refusal of the day comes before it looks at the set. */
+static struct njerumoy_set published_set(const struct question *q) {
+    return epoch_of(q) == NJERUMOY_WMM2020.epoch_year ? NJERUMOY_WMM2020 : NJERUMOY_WMM2025;
 }
 
 /* Whether Field leaves orders 2 and above out at this place. Field itself is asked, with a set of one
  * number, g of degree 2 and order 2: the field of that is zero exactly where order 2 is left out. */
-static int near_pole(struct njerumoy_place place, int32_t year, int32_t day,
+static int near_pole(struct njerumoy_place place, const struct question *q,
                      const struct njerumoy_set *set) {
     static const float none[NJERUMOY_LIST_LENGTH], one[NJERUMOY_LIST_LENGTH] = {[4] = 1.0f};
     struct njerumoy_set order_2 = *set;
@@ -78,45 +98,46 @@ static int near_pole(struct njerumoy_place place, int32_t year, int32_t day,
 
     order_2.g = one;
     order_2.h = order_2.g_dot = order_2.h_dot = none;
-    njerumoy_field_with(&order_2, place, year, day, xyz, errors, entry, years);
+    njerumoy_field_with(&order_2, place, q->year, q->day, xyz, errors, entry, years);
     return xyz[0] == 0.0f && xyz[1] == 0.0f && xyz[2] == 0.0f;
 }
 
-static uint32_t field_at(float lat, float lon, float height, int32_t year, int32_t day,
-                         struct shown *s) {
-    const struct njerumoy_place place = {height, pair(lat), pair(lon)};
+static uint32_t field_at(const struct question *q, const struct njerumoy_set *set, struct shown *s) {
+    const struct njerumoy_place place = {q->height, pair(q->lat), pair(q->lon)};
     size_t entry[2];
-    int32_t years[2];
 
-    s->set = set_of(year, day);
     const uint32_t refusal =
-        njerumoy_field_with(s->set, place, year, day, s->xyz, s->errors, entry, years);
+        njerumoy_field_with(set, place, q->year, q->day, s->xyz, s->errors, entry, s->years);
     if (refusal == NJERUMOY_HEIGHT) return refusal;
     /* Its refusals are Field's. */
-    njerumoy_allowance_with(s->set, place, year, day, s->allowances, entry, years);
-    s->near_pole = near_pole(place, year, day, s->set);
+    njerumoy_allowance_with(set, place, q->year, q->day, s->allowances, entry, s->years);
+    s->near_pole = near_pole(place, q, set);
     /* A pair comes round again after a full turn, so the degrees are asked for too. */
-    const uint32_t of_degrees = njerumoy_grid_variation(lat, lon, 0.0f, &s->given, &s->variation);
+    const uint32_t of_degrees =
+        njerumoy_grid_variation(q->lat, q->lon, 0.0f, &s->given, &s->variation);
     return of_degrees != 0 ? of_degrees : refusal;
 }
 
-static uint32_t strengths(float lat, float lon, struct shown *s) {
+static uint32_t strengths(const struct question *q, const struct njerumoy_set *set,
+                          struct shown *s) {
     const float x = s->xyz[0], y = s->xyz[1], z = s->xyz[2];
     uint32_t refusal = njerumoy_horizontal(x, y, z, &s->h);
     if (refusal == 0) refusal = njerumoy_total(x, y, z, &s->f);
     if (refusal == 0) refusal = njerumoy_zone(x, y, z, &s->zone);
     if (refusal == 0) {
-        refusal = njerumoy_declination_uncertainty_with(s->set, s->xyz, &s->d_uncertainty);
+        refusal = njerumoy_declination_uncertainty_with(set, s->xyz, &s->d_uncertainty);
     }
     s->d = atan2f(y, x) / DEGREE;
-    if (refusal == 0) refusal = njerumoy_grid_variation(lat, lon, s->d, &s->given, &s->variation);
+    if (refusal == 0) {
+        refusal = njerumoy_grid_variation(q->lat, q->lon, s->d, &s->given, &s->variation);
+    }
     return refusal;
 }
 
 /* Two digits after the point, upward: what is printed is still a bound. */
 static double upward(float bound) { return ceil((double)bound * 100.0) / 100.0; }
 
-static void print(const struct shown *s) {
+static void print(const struct njerumoy_set *set, const struct shown *s) {
     const char *const zones[] = {"none", "blackout", "caution"};
     printf("X  %9.1f nT  +- %.0f\n", (double)s->xyz[0], (double)s->errors[NJERUMOY_ERROR_X]);
     printf("Y  %9.1f nT  +- %.0f\n", (double)s->xyz[1], (double)s->errors[NJERUMOY_ERROR_Y]);
@@ -126,7 +147,7 @@ static void print(const struct shown *s) {
     printf("D  %9.2f deg +- %.2f\n", (double)s->d, (double)s->d_uncertainty);
     printf("zone   %s\n", zones[s->zone]);
     if (s->given) printf("grid   %.2f deg\n", (double)s->variation);
-    printf("epoch  %d\n", (int)s->set->epoch_year);
+    printf("epoch  %d\n", (int)set->epoch_year);
     printf("sums   X, Y, Z within %.2f, %.2f, %.2f nT of the exact sums\n", upward(s->allowances[0]),
            upward(s->allowances[1]), upward(s->allowances[2]));
     if (s->near_pole) {
@@ -134,23 +155,50 @@ static void print(const struct shown *s) {
     }
 }
 
-int main(int count, char **words) {
-    float lat, lon, height;
-    int32_t year, day;
-    struct shown s;
+/* Refusal 5 is of the day or of the set: a day that has an epoch is not what was refused. */
+static void print_refusal(uint32_t refusal, const struct question *q, const struct njerumoy_set *set,
+                          const struct shown *s) {
+    printf("refusal %u: ", (unsigned)refusal);
+    if (refusal == NJERUMOY_EPOCH_YEAR && epoch_of(q) != 0) {
+        printf("no model has the epoch year of these coefficients, %d: there are 2020 and 2025\n",
+               (int)set->epoch_year);
+    } else if (refusal == NJERUMOY_OTHER_EPOCH) {
+        printf("the day belongs to the epoch %d, and these coefficients to the epoch %d\n",
+               (int)s->years[0], (int)s->years[1]);
+    } else {
+        puts(WORDS[refusal]);
+    }
+}
 
-    if (count != 6 || !read_float(words[1], &lat) || !read_float(words[2], &lon) ||
-        !read_float(words[3], &height) || !read_whole(words[4], &year) ||
-        !read_whole(words[5], &day)) {
+/* The exit status. */
+static int answer(const struct question *q, const struct njerumoy_set *set) {
+    struct shown s;
+    uint32_t refusal = field_at(q, set, &s);
+    if (refusal == 0) refusal = strengths(q, set, &s);
+    if (refusal != 0) {
+        print_refusal(refusal, q, set, &s);
+        return 1;
+    }
+    print(set, &s);
+    return 0;
+}
+
+int main(int count, char **words) {
+    const int of_file = count == 8 && strcmp(words[1], "--cof") == 0;
+    struct njerumoy_owned_set own;
+    struct njerumoy_set set;
+    struct question q;
+
+    if (count != (of_file ? 8 : 6) || !read_question(words + count - 5, &q)) {
         fputs(USAGE, stderr);
         return 2;
     }
-    uint32_t refusal = field_at(lat, lon, height, year, day, &s);
-    if (refusal == 0) refusal = strengths(lat, lon, &s);
-    if (refusal != 0) {
-        printf("refusal %u: %s\n", (unsigned)refusal, WORDS[refusal]);
-        return 1;
+    if (of_file) {
+        const int status = read_cof_file(words[2], &own);
+        if (status != 0) return status;
+        set = njerumoy_lent(&own);
+    } else {
+        set = published_set(&q);
     }
-    print(&s);
-    return 0;
+    return answer(&q, &set);
 }

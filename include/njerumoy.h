@@ -2,14 +2,16 @@
  *
  * Every function returns a refusal number: 0 where it has an answer, else one of the numbers below.
  * A place that is lent for a result is written only where the call has that result; else it keeps
- * what it held. The lists of coefficients are only read. Nothing is kept between two calls, so calls
- * may run at the same time in several threads. Of other libraries only memcpy and memset are called.
+ * what it held. The lists of coefficients are only read, but by njerumoy_read_cof: to that call they
+ * are places for results. Nothing is kept between two calls, so calls may run at the same time in
+ * several threads. Of other libraries only memcpy and memset are called.
  *
- * Whatever numbers come, a call ends and answers as this file says: NaNs, infinities, and lists of
- * any length. What the caller owes is what C cannot say:
- *   - a pointer is not null and is aligned, also for a list of length 0;
- *   - behind a list's pointer stand at least as many floats as its length says;
- *   - the places for results overlap neither each other nor a list.
+ * Whatever numbers and bytes come, a call ends and answers as this file says: NaNs, infinities, and
+ * lists and texts of any length. What the caller owes is what C cannot say:
+ *   - a pointer is not null and is aligned, also for a list or a text of length 0;
+ *   - behind a list's pointer stand at least as many floats as its length says, and behind a text's
+ *     as many bytes;
+ *   - the places for results overlap neither each other nor a list or a text that is read.
  *
  * float is IEEE 754 binary32. The processor rounds to nearest, and flushes no subnormal to zero
  * (leave -ffast-math out when you link). Strengths are in nanotesla, rates in nanotesla a year,
@@ -65,7 +67,11 @@ enum {
     /* a number that cannot be used: a component that is not finite or over 2^60 in size, a
      * declination that is not finite or outside -180 to 180, a root of a NaN or of a number below
      * zero */
-    NJERUMOY_UNUSABLE = 12
+    NJERUMOY_UNUSABLE = 12,
+    /* a line of a coefficient file is not what the file has there. `line` is told its number. */
+    NJERUMOY_MALFORMED = 13,
+    /* a line of a coefficient file is out of order or missing. `line` is told the number. */
+    NJERUMOY_OUT_OF_ORDER = 14
 };
 
 /* A pair (sine, cosine) is off the circle where one of them is not finite, or the sum of their
@@ -148,6 +154,35 @@ uint32_t njerumoy_sum(float cos_theta, float sin_theta, float sin_lambda, float 
 
 /* Epoch: the epoch year of a day, and the years since then. Refusals, in this order: 4, 5. */
 uint32_t njerumoy_epoch(int32_t year, int32_t day_of_year, int32_t *epoch_year, float *offset);
+
+/* Read: a coefficient set from the agency's file WMM.COF.
+ *
+ * text          the file's bytes, with their number
+ * g .. h_dot    where the set is put, each list with its length
+ * epoch_year    the set's epoch year. Any whole number is read; njerumoy_field refuses others by 5
+ * entry         of refusal 7: as in njerumoy_field
+ * line          of refusals 13 and 14: the number of the line; the first is 1
+ *
+ * The file:
+ *   - A line ends with LF or CR LF, the last one also with the file. Its words stand between blanks,
+ *     which are spaces and tabs.
+ *   - Line 1 begins with the epoch year, a whole number. The rest of it is free.
+ *   - Then come 90 lines of six words: degree, order, g, h, g_dot, h_dot. Degree and order are whole
+ *     numbers, in the order 1 0, 1 1, 2 0, .. 12 12.
+ *   - Then come lines of nines, as many as there are, each of one word or more; and nothing else.
+ *   - A number is digits, or digits, a point and digits, at most nine digits in all, and may have a
+ *     minus before it. So +5, .5, 5. and 1e3 are none. It is read as the nearest float, of two as
+ *     near the even one, and -0.0 as -0. A whole number has only zeros after its point.
+ *
+ * Refusals: 6; then the first line that is refused, by 13 or 14; then, of a file whose lines are all
+ * in order, 7. Where a coefficient's line is due, 14 is the end of the file, six words as above with
+ * another degree or order, and a line of nines, unless it is the line that is due (9 9 9 9 9 9 can
+ * be). An empty file is refused by 14 at line 1. All else is 13. A refused file leaves the four lists
+ * and epoch_year as they were. */
+uint32_t njerumoy_read_cof(const uint8_t *text, size_t text_length, float *g, size_t g_length,
+                           float *h, size_t h_length, float *g_dot, size_t g_dot_length,
+                           float *h_dot, size_t h_dot_length, int32_t *epoch_year, size_t entry[2],
+                           size_t *line);
 
 /* The strengths over a field's X, Y and Z. Refusal 12, by any of the three.
  *

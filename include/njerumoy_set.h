@@ -1,9 +1,10 @@
 /* Njerumoy, with the set in one piece: a set's lists and its epoch year go together, so that who
  * lends one names no year beside it. njerumoy_published.h has the two published sets in this form.
  *
- * Each function here only hands the members on, to the function of njerumoy.h that has its name
- * without `_with`. What njerumoy.h says of that one holds here too: its answers, its refusals, and
- * what the caller owes. These few lines are not proved; bindings/c/test.c compares the two.
+ * Each function here but njerumoy_lent only hands the members on, to the function of njerumoy.h that
+ * has its name without `_with` or `_into`. What njerumoy.h says of that one holds here too: its
+ * answers, its refusals, and what the caller owes. These few lines are not proved; the tests in
+ * bindings/c compare the two.
  */
 #ifndef NJERUMOY_SET_H
 #define NJERUMOY_SET_H
@@ -16,6 +17,31 @@ struct njerumoy_set {
     const float *g, *h, *g_dot, *h_dot;
     size_t g_length, h_length, g_dot_length, h_dot_length;
 };
+
+/* A set that owns its lists: where a coefficient file is read into. Its year and its lists are written
+ * by one call, all of them or none, so that a year never parts from its lists. */
+struct njerumoy_owned_set {
+    int32_t epoch_year;
+    float g[NJERUMOY_LIST_LENGTH], h[NJERUMOY_LIST_LENGTH];
+    float g_dot[NJERUMOY_LIST_LENGTH], h_dot[NJERUMOY_LIST_LENGTH];
+};
+
+static inline uint32_t njerumoy_read_cof_into(struct njerumoy_owned_set *set, const uint8_t *text,
+                                              size_t text_length, size_t entry[2], size_t *line) {
+    return njerumoy_read_cof(text, text_length, set->g, NJERUMOY_LIST_LENGTH, set->h,
+                             NJERUMOY_LIST_LENGTH, set->g_dot, NJERUMOY_LIST_LENGTH, set->h_dot,
+                             NJERUMOY_LIST_LENGTH, &set->epoch_year, entry, line);
+}
+
+/* An owned set as the calls below take it. It points into `set` and has the year of this moment:
+ * after another file was read into `set`, lend it anew. */
+static inline struct njerumoy_set njerumoy_lent(const struct njerumoy_owned_set *set) {
+    const struct njerumoy_set lent = {
+        set->epoch_year, set->g, set->h, set->g_dot, set->h_dot,
+        NJERUMOY_LIST_LENGTH, NJERUMOY_LIST_LENGTH, NJERUMOY_LIST_LENGTH, NJERUMOY_LIST_LENGTH,
+    };
+    return lent;
+}
 
 /* Sine and cosine of one angle. */
 struct njerumoy_pair {

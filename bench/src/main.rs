@@ -4,10 +4,12 @@
 //!   bench [ROUNDS]
 mod cases;
 
+use bench::reading::{self, Places, LENGTH};
 use cases::{sets, Both, Components, FieldCase, Random, SumCase};
 use njerumoy::Field;
 use oracle::entries;
 use oracle::field::{GeomagneticField, WarningZone};
+use oracle::layout::published_file;
 use oracle::models::WMM_ERROR_MODELS;
 use std::env;
 use std::hint::black_box;
@@ -15,6 +17,8 @@ use std::process::ExitCode;
 use std::time::Instant;
 
 const CASES: usize = 1000;
+/// A file takes longer than any other case.
+const FILES: usize = 100;
 const ROUNDS: usize = 301;
 
 /// An answer as bits. No case is refused; a refusal would be its number, and no bits.
@@ -132,8 +136,16 @@ fn rust_root(x: &f32) -> Bits {
         .and_then(|r| bits(r, 0.0, 0.0))
 }
 
+/// What a reader of files says, the places after it, or its refusal.
+fn read((number, places): reading::Answer) -> Result<Places, u32> {
+    match number {
+        0 => Ok(places),
+        _ => Err(number),
+    }
+}
+
 /// Nanoseconds a call, over all cases once.
-fn time<T>(cases: &[T], call: impl Fn(&T) -> Bits) -> f64 {
+fn time<T, A>(cases: &[T], call: impl Fn(&T) -> Result<A, u32>) -> f64 {
     let began = Instant::now();
     for case in cases {
         let _ = black_box(call(black_box(case)));
@@ -148,12 +160,12 @@ fn median(mut times: Vec<f64>) -> f64 {
 
 /// Compares the bits, then times both sides in turn, the first of the two changing from round to
 /// round. Gives whether the bits agree.
-fn row<T>(
+fn row<T, A: PartialEq>(
     name: &str,
     rounds: usize,
     cases: &[T],
-    ours: impl Fn(&T) -> Bits,
-    rust: impl Fn(&T) -> Bits,
+    ours: impl Fn(&T) -> Result<A, u32>,
+    rust: impl Fn(&T) -> Result<A, u32>,
 ) -> bool {
     let differing = cases
         .iter()
@@ -194,6 +206,7 @@ fn main() -> ExitCode {
     let fields = random.fields(CASES);
     let components = random.components(CASES);
     let numbers = random.numbers(CASES);
+    let files = vec![published_file(2025).expect("a published epoch"); FILES];
     println!(
         "{:<20} {:>9} {:>9} {:>7}   bits",
         "", "ours ns", "Rust ns", "ratio"
@@ -228,6 +241,13 @@ fn main() -> ExitCode {
             rust_strengths,
         ),
         row("square root", rounds, &numbers, our_root, rust_root),
+        row(
+            "a file of 93 lines",
+            rounds,
+            &files,
+            |text| read(reading::ours(text, [LENGTH; 4])),
+            |text| read(reading::rust(text, [LENGTH; 4])),
+        ),
     ];
     if same.iter().all(|same| *same) {
         ExitCode::SUCCESS

@@ -1,31 +1,10 @@
 /* Tests of the library through its C headers: answers, refusals in their order, what they carry, and
  * that a place keeps what it held where the call has no result for it. Each question that takes a set
  * is asked in both forms, with loose lists and with the set in one piece, and all that is told must
- * be the same, bit for bit. tools/test-library runs it. */
+ * be the same, bit for bit. tools/test-library runs it, and test_cof.c for the coefficient files. */
 #include <math.h>
-#include <stdio.h>
-#include <string.h>
 
-#include "njerumoy_published.h"
-
-#define N NJERUMOY_LIST_LENGTH
-
-static int checks, failures;
-
-static void check(int holds, int line, const char *what) {
-    checks++;
-    if (!holds) {
-        failures++;
-        printf("test.c:%d: %s\n", line, what);
-    }
-}
-
-#define CHECK(x) check((x), __LINE__, #x)
-
-/* What stands in a place before a call. */
-static const float HELD = 12345.5f;
-static const size_t HELD_SIZE = 777;
-static const int32_t HELD_YEAR = -77;
+#include "check.h"
 
 struct field {
     float height, sin_phi, cos_phi, sin_lambda, cos_lambda;
@@ -388,6 +367,5 @@ int main(void) {
     test_strengths();
     test_grid();
     test_root();
-    printf("%d checks, %d failures\n", checks, failures);
-    return failures != 0;
+    return outcome();
 }

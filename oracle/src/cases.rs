@@ -4,6 +4,8 @@
 //! others are random. Special sets have a list of their own, and beside each stand cases with one
 //! special part.
 mod damage;
+pub mod decimals;
+mod files;
 mod lists;
 mod pairs;
 mod places;
@@ -11,7 +13,9 @@ mod rng;
 mod strengths;
 mod values;
 
+use crate::format::Case;
 use crate::replay::Replay;
+pub use decimals::planned_words;
 use places::DAYS;
 use rng::{plans, singles, Rng, Walk};
 use std::io::{self, Write};
@@ -28,17 +32,24 @@ pub enum Kind {
     Gv,
     Sqrt,
     Bad,
+    Dec,
+    Whole,
+    Cof,
 }
 
-/// Every kind, its name on the command line, and its share of a mixed list.
-pub const KINDS: [(Kind, &str, usize); 7] = [
-    (Kind::Sum, "SUM", 6),
-    (Kind::Field, "FIELD", 6),
-    (Kind::Epoch, "EPOCH", 2),
-    (Kind::Str, "STR", 3),
-    (Kind::Gv, "GV", 2),
-    (Kind::Sqrt, "SQRT", 2),
-    (Kind::Bad, "BAD", 1),
+/// Every kind, its name on the command line, and its share of a mixed list. A line of COF is long,
+/// so it is rare.
+pub const KINDS: [(Kind, &str, usize); 10] = [
+    (Kind::Sum, "SUM", 60),
+    (Kind::Field, "FIELD", 60),
+    (Kind::Epoch, "EPOCH", 20),
+    (Kind::Str, "STR", 30),
+    (Kind::Gv, "GV", 20),
+    (Kind::Sqrt, "SQRT", 20),
+    (Kind::Bad, "BAD", 10),
+    (Kind::Dec, "DEC", 20),
+    (Kind::Whole, "WHOLE", 10),
+    (Kind::Cof, "COF", 1),
 ];
 
 pub struct Generator {
@@ -51,7 +62,9 @@ pub struct Generator {
     special: bool,
     published: Option<usize>,
     /// The walk over the planned list of each kind, in the order of `Kind`.
-    walks: [Walk; 7],
+    walks: [Walk; KINDS.len()],
+    /// The planned words of DEC and WHOLE.
+    words: Vec<Vec<u8>>,
     /// The walks over the special sets, over the special parts beside them, and over all days with
     /// each published set.
     set_walk: Walk,
@@ -94,6 +107,7 @@ impl Generator {
             pools.longitude_deg.len(),
             pools.declination_deg.len(),
         ];
+        let words = decimals::planned_words();
         let totals = [
             plans(&sum_ways),
             plans(&field_ways),
@@ -102,6 +116,9 @@ impl Generator {
             plans(&gv_ways) + WRAPS,
             pools.root.len(),
             1,
+            words.len(),
+            words.len(),
+            files::FILES,
         ];
         Generator {
             walks: totals.map(|total| Walk::new(total, &mut rng)),
@@ -109,6 +126,7 @@ impl Generator {
             sum_singles: Walk::new(singles(&sum_ways), &mut rng),
             field_singles: Walk::new(singles(&field_ways), &mut rng),
             day_walks: [DAYS; 2].map(|total| Walk::new(total, &mut rng)),
+            words,
             rng,
             pools,
             replay: Replay::default(),
@@ -136,8 +154,37 @@ impl Generator {
             Kind::Gv => self.gv_case(place),
             Kind::Sqrt => self.sqrt_case(place),
             Kind::Bad => return damage::bad_line(self, out),
+            Kind::Dec | Kind::Whole | Kind::Cof => return self.text_line(kind, place, out),
         };
         self.replay.case(&case, out);
+    }
+
+    /// The text of a question of DEC, WHOLE or COF.
+    fn text(&mut self, kind: Kind, place: Option<usize>) -> Vec<u8> {
+        match (kind, place) {
+            (Kind::Cof, _) => files::in_a_line(self.file(place)),
+            (_, Some(place)) => self.words[place].clone(),
+            (_, None) => decimals::any_word(&mut self.rng, &self.words),
+        }
+    }
+
+    /// A file: the planned one at a place, or a random one.
+    pub fn file(&mut self, place: Option<usize>) -> Vec<u8> {
+        files::file(&mut self.rng, &self.words, place)
+    }
+
+    fn text_line(&mut self, kind: Kind, place: Option<usize>, out: &mut Vec<u8>) {
+        let text = self.text(kind, place);
+        self.replay.case(&text_case(kind, &text), out);
+    }
+}
+
+/// The question of DEC, WHOLE or COF with this text.
+fn text_case(kind: Kind, text: &[u8]) -> Case<'_> {
+    match kind {
+        Kind::Dec => Case::Dec { word: text },
+        Kind::Whole => Case::Whole { word: text },
+        _ => Case::Cof { text },
     }
 }
 

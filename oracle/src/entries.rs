@@ -37,6 +37,10 @@ pub enum Refusal {
     Offset,
     /// 12
     Unusable,
+    /// 13: the number of the line, from 1.
+    Malformed { line: usize },
+    /// 14: the number of the line that is out of order, or that should have been there.
+    OutOfOrder { line: usize },
 }
 
 /// A lent set: an epoch year and four lists of any length, g, h, g_dot, h_dot.
@@ -95,14 +99,20 @@ fn outside_of_validity_range() -> Refusal {
 fn check_lists(lists: &[Vec<f32>; 4]) -> Result<[&[f32; N_COEFF]; 4], Refusal> {
     let whole = |i: usize| <&[f32; N_COEFF]>::try_from(&lists[i][..]).map_err(|_| Refusal::Length);
     let whole = [whole(0)?, whole(1)?, whole(2)?, whole(3)?];
-    for (list, entries) in whole.iter().enumerate() {
+    check_entries(whole)?;
+    Ok(whole)
+}
+
+/// Refusal 7 at the first bad place, by list and then by index.
+pub fn check_entries(lists: [&[f32; N_COEFF]; 4]) -> Result<(), Refusal> {
+    for (list, entries) in lists.into_iter().enumerate() {
         for (index, entry) in entries.iter().enumerate() {
             if !within(*entry, -CAPS[list], CAPS[list]) {
                 return Err(Refusal::Coefficient { list, index });
             }
         }
     }
-    Ok(whole)
+    Ok(())
 }
 
 /// Field: X, Y, Z in nT with the error record. Refusals 1, 2, 3, 4, 5, 6, 7, 8.

@@ -9,9 +9,12 @@ pub const MALFORMED: &[u8] = b"malformed";
 /// The longest list that a SET line can say.
 pub const MAX_COUNT: usize = 128;
 
+/// The byte that stands for a newline in the text of a COF line.
+pub const NEWLINE: u8 = b';';
+
 /// One question.
 #[derive(Copy, Clone, Debug, PartialEq)]
-pub enum Case {
+pub enum Case<'a> {
     Sum {
         cos_theta: f32,
         sin_theta: f32,
@@ -46,6 +49,16 @@ pub enum Case {
     Sqrt {
         x: f32,
     },
+    Dec {
+        word: &'a [u8],
+    },
+    Whole {
+        word: &'a [u8],
+    },
+    /// A file, as it stands in the line.
+    Cof {
+        text: &'a [u8],
+    },
 }
 
 /// The words of a line. Exactly one space stands between two words.
@@ -71,6 +84,16 @@ impl<'a> Words<'a> {
                 Some(text)
             }
         }
+    }
+
+    /// A word that is not empty.
+    fn some_word(&mut self) -> Option<&'a [u8]> {
+        self.word().filter(|word| !word.is_empty())
+    }
+
+    /// All that is left, spaces too, if there was a space before it.
+    fn rest(&mut self) -> Option<&'a [u8]> {
+        self.rest.take()
     }
 
     /// Exactly 8 hex digits, small or capital.
@@ -138,7 +161,7 @@ fn decimal(digits: &[u8], most: usize) -> Option<i64> {
 }
 
 /// Reads a question: a line up to its mark.
-pub fn parse_case(question: &[u8]) -> Option<Case> {
+pub fn parse_case(question: &[u8]) -> Option<Case<'_>> {
     let mut words = Words::of(question);
     let case = match words.word()? {
         b"SUM" => Case::Sum {
@@ -173,6 +196,15 @@ pub fn parse_case(question: &[u8]) -> Option<Case> {
             declination_deg: words.float()?,
         },
         b"SQRT" => Case::Sqrt { x: words.float()? },
+        b"DEC" => Case::Dec {
+            word: words.some_word()?,
+        },
+        b"WHOLE" => Case::Whole {
+            word: words.some_word()?,
+        },
+        b"COF" => Case::Cof {
+            text: words.rest()?,
+        },
         _ => return None,
     };
     words.end(case)
@@ -191,14 +223,18 @@ pub fn parse_set(line: &[u8]) -> Option<Set> {
     words.end(set)
 }
 
-/// Writes a space and the 8 hex digits of a float.
-pub fn put_float(out: &mut Vec<u8>, x: f32) {
+/// Writes a space and 8 hex digits.
+pub fn put_hex(out: &mut Vec<u8>, bits: u32) {
     const DIGITS: &[u8; 16] = b"0123456789abcdef";
-    let bits = x.to_bits();
     out.push(b' ');
     for place in (0..8).rev() {
         out.push(DIGITS[(bits >> (4 * place)) as usize % 16]);
     }
+}
+
+/// Writes a space and the 8 hex digits of a float.
+pub fn put_float(out: &mut Vec<u8>, x: f32) {
+    put_hex(out, x.to_bits());
 }
 
 /// Writes a space and a decimal number.
@@ -264,7 +300,15 @@ pub fn put_case(out: &mut Vec<u8>, case: &Case) {
             out.extend_from_slice(b"SQRT");
             put_float(out, x);
         }
+        Case::Dec { word } => put_text(out, b"DEC ", word),
+        Case::Whole { word } => put_text(out, b"WHOLE ", word),
+        Case::Cof { text } => put_text(out, b"COF ", text),
     }
+}
+
+fn put_text(out: &mut Vec<u8>, name: &[u8], text: &[u8]) {
+    out.extend_from_slice(name);
+    out.extend_from_slice(text);
 }
 
 /// Writes a SET line, with no newline.
@@ -292,6 +336,8 @@ pub fn put_refusal(out: &mut Vec<u8>, refusal: &Refusal) {
         Refusal::Ratio => b"10",
         Refusal::Offset => b"11",
         Refusal::Unusable => b"12",
+        Refusal::Malformed { .. } => b"13",
+        Refusal::OutOfOrder { .. } => b"14",
     };
     out.extend_from_slice(number);
     match *refusal {
@@ -309,6 +355,7 @@ pub fn put_refusal(out: &mut Vec<u8>, refusal: &Refusal) {
             put_int(out, of_day);
             put_int(out, of_set);
         }
+        Refusal::Malformed { line } | Refusal::OutOfOrder { line } => put_int(out, line as i32),
         _ => {}
     }
 }

@@ -1,6 +1,15 @@
-//! The oracle's entries as a library, for the benchmark.
+//! The oracle as a library: for its command, for its tests, and for the benchmark.
+pub mod agency;
+pub mod cases;
 pub mod entries;
 pub mod field;
+pub mod format;
+pub mod layout;
 pub mod models;
+pub mod published;
+pub mod replay;
+pub mod roots;
 pub mod sets;
 pub mod synthesis;
+#[cfg(test)]
+mod tests;

@@ -1,18 +1,6 @@
 //! The oracle: the Rust side of the comparison. README.md says how it is used.
-mod cases;
-mod entries;
-mod field;
-mod format;
-mod models;
-mod published;
-mod replay;
-mod roots;
-mod sets;
-mod synthesis;
-#[cfg(test)]
-mod tests;
-
-use cases::{write_cases, Kind, KINDS};
+use oracle::cases::{write_cases, Kind, KINDS};
+use oracle::{published, replay, roots};
 use std::env;
 use std::fs;
 use std::io::{self, BufReader, BufWriter, ErrorKind};
@@ -21,7 +9,7 @@ use std::process::ExitCode;
 const USAGE: &str = "\
 oracle answer                        answers the case lines of standard input
 oracle cases SEED COUNT [KIND ...]   writes COUNT case lines with their answers
-                                     (SUM FIELD EPOCH STR GV SQRT BAD; none named: all)
+                                     (SUM FIELD EPOCH STR GV SQRT BAD DEC WHOLE COF; none named: all)
 oracle roots                         compares the root on all 2^31 patterns, two threads
 oracle published FILE                compares the published test values
 oracle rows FILE                     writes them as lines for the program replay";

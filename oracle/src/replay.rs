@@ -1,15 +1,17 @@
 //! Answers case lines as the program `replay` does: each line is written back up to its mark, with
 //! the answer after it. A right list of cases comes back as it went in.
+use crate::agency::{number, read_cof, whole};
 use crate::entries::{
     epoch, field, grid_variation, horizontal, square_root, sum, total, uncertainty, zone, Refusal,
     Set,
 };
 use crate::field::{GeomagneticField, WarningZone};
 use crate::format::{
-    parse_case, parse_set, put_case, put_float, put_floats, put_int, put_refusal, put_set, Case,
-    MALFORMED, MARK,
+    parse_case, parse_set, put_case, put_float, put_floats, put_hex, put_int, put_refusal, put_set,
+    Case, MALFORMED, MARK, NEWLINE,
 };
 use crate::models::WMM_ERROR_MODELS;
+use crate::synthesis::N_COEFF;
 use std::io::{self, BufRead, Write};
 
 /// The longest line that can be read, in bytes without its newline.
@@ -84,12 +86,58 @@ fn malformed(shown: &[u8], out: &mut Vec<u8>) {
 
 /// Writes the answer to a case: 0 and the result, or the refusal.
 pub fn put_answer(out: &mut Vec<u8>, case: &Case, set: &Set) {
-    let start = out.len();
-    out.push(b'0');
-    if let Err(refusal) = put_result(out, case, set) {
-        out.truncate(start);
-        put_refusal(out, &refusal);
+    match *case {
+        Case::Dec { word } => put_word(out, number(word).map(f32::to_bits)),
+        Case::Whole { word } => put_word(out, whole(word).map(|value| value as u32)),
+        Case::Cof { text } => put_file(out, text),
+        _ => {
+            let start = out.len();
+            out.push(b'0');
+            if let Err(refusal) = put_result(out, case, set) {
+                out.truncate(start);
+                put_refusal(out, &refusal);
+            }
+        }
     }
+}
+
+/// Writes what a word reads as: 0 and its bits, or 13, which has no line here.
+fn put_word(out: &mut Vec<u8>, bits: Option<u32>) {
+    match bits {
+        Some(bits) => {
+            out.push(b'0');
+            put_hex(out, bits);
+        }
+        None => out.extend_from_slice(b"13"),
+    }
+}
+
+/// What the lists hold before a file is read, by its bits: the largest finite f32.
+const UNREAD: u32 = 0x7f7f_ffff;
+
+/// Writes 0 and the epoch year of a file, or the refusal; then the sum of the four lists after it.
+fn put_file(out: &mut Vec<u8>, text: &[u8]) {
+    let newlines = |byte: &u8| if *byte == NEWLINE { b'\n' } else { *byte };
+    let text: Vec<u8> = text.iter().map(newlines).collect();
+    let mut lists = [[f32::from_bits(UNREAD); N_COEFF]; 4];
+    let [g, h, g_dot, h_dot] = &mut lists;
+    match read_cof(&text, g, h, g_dot, h_dot) {
+        Ok(epoch_year) => put_word(out, Some(epoch_year as u32)),
+        Err(refusal) => put_refusal(out, &refusal),
+    }
+    let sum = sum_of(&lists);
+    put_hex(out, (sum >> 32) as u32);
+    put_hex(out, sum as u32);
+}
+
+/// 64 bits that tell four lists from others: the hash FNV-1a, taken by whole floats.
+fn sum_of(lists: &[[f32; N_COEFF]; 4]) -> u64 {
+    lists
+        .iter()
+        .flatten()
+        .fold(0xcbf2_9ce4_8422_2325, |sum, x| {
+            (sum ^ u64::from(x.to_bits())).wrapping_mul(0x100_0000_01b3)
+        })
 }
 
 fn put_result(out: &mut Vec<u8>, case: &Case, set: &Set) -> Result<(), Refusal> {
@@ -161,6 +209,9 @@ fn put_result(out: &mut Vec<u8>, case: &Case, set: &Set) -> Result<(), Refusal> 
             None => out.extend_from_slice(b" N"),
         },
         Case::Sqrt { x } => put_float(out, square_root(x)?),
+        Case::Dec { .. } | Case::Whole { .. } | Case::Cof { .. } => {
+            unreachable!("put_answer answers these by itself")
+        }
     }
     Ok(())
 }

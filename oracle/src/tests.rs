@@ -1,9 +1,11 @@
-//! Tests: the worked examples of document 01, the refusals and their order, the line format, and
-//! the generated cases.
+//! Tests: the worked examples of document 01, the refusals and their order, the agency's file, the
+//! line format, and the generated cases.
+mod agency;
 mod format;
 mod generated;
 mod paper;
 mod refusals;
+mod words;
 
 use crate::entries::Set;
 use crate::synthesis::N_COEFF;

@@ -5,10 +5,14 @@
 //! Sines and cosines are the caller's: lend those of one angle, as `Pair { sin, cos }`.
 #![no_std]
 
+mod owned;
 pub mod published;
 mod refusal;
-mod sys;
+#[doc(hidden)] // for the comparison in bench/, which lends lists of every length
+pub mod sys;
 
+pub use owned::{OwnedSet, LIST_LENGTH};
+use refusal::Carried;
 pub use refusal::{List, Refusal};
 
 /// Sine and cosine of one angle.
@@ -104,7 +108,7 @@ pub enum Zone {
 fn checked(number: u32) -> Result<(), Refusal> {
     match number {
         0 => Ok(()),
-        _ => Err(Refusal::of(number, [0; 2], [0; 2])),
+        _ => Err(Refusal::of(number, Carried::default())),
     }
 }
 
@@ -123,8 +127,8 @@ pub fn field(
     set: &Set,
 ) -> Result<Field, Refusal> {
     let (mut xyz, mut errors) = ([0.0; 3], [0.0; 8]);
-    let (mut entry, mut years) = ([0; 2], [0; 2]);
-    // SAFETY: each pointer and length are those of one slice, and the places are four locals.
+    let mut carried = Carried::default();
+    // SAFETY: each pointer and length are those of one slice, and the places are locals.
     let number = unsafe {
         sys::njerumoy_field(
             height,
@@ -145,12 +149,12 @@ pub fn field(
             set.h_dot.len(),
             &mut xyz,
             &mut errors,
-            &mut entry,
-            &mut years,
+            &mut carried.entry,
+            &mut carried.years,
         )
     };
     if number != 0 {
-        return Err(Refusal::of(number, entry, years));
+        return Err(Refusal::of(number, carried));
     }
     Ok(Field {
         x: xyz[0],
@@ -182,8 +186,8 @@ pub fn allowance(
     set: &Set,
 ) -> Result<Allowances, Refusal> {
     let mut xyz = [0.0; 3];
-    let (mut entry, mut years) = ([0; 2], [0; 2]);
-    // SAFETY: each pointer and length are those of one slice, and the places are three locals.
+    let mut carried = Carried::default();
+    // SAFETY: each pointer and length are those of one slice, and the places are locals.
     let number = unsafe {
         sys::njerumoy_allowance(
             height,
@@ -203,12 +207,12 @@ pub fn allowance(
             set.h_dot.as_ptr(),
             set.h_dot.len(),
             &mut xyz,
-            &mut entry,
-            &mut years,
+            &mut carried.entry,
+            &mut carried.years,
         )
     };
     if number != 0 {
-        return Err(Refusal::of(number, entry, years));
+        return Err(Refusal::of(number, carried));
     }
     Ok(Allowances {
         x: xyz[0],
@@ -227,8 +231,9 @@ pub fn sum(
     offset: f32,
     set: &Set,
 ) -> Result<Sums, Refusal> {
-    let (mut xyz, mut entry) = ([0.0; 3], [0; 2]);
-    // SAFETY: each pointer and length are those of one slice, and the places are two locals.
+    let mut xyz = [0.0; 3];
+    let mut carried = Carried::default();
+    // SAFETY: each pointer and length are those of one slice, and the places are locals.
     let number = unsafe {
         sys::njerumoy_sum(
             colatitude.cos,
@@ -246,11 +251,11 @@ pub fn sum(
             set.h_dot.as_ptr(),
             set.h_dot.len(),
             &mut xyz,
-            &mut entry,
+            &mut carried.entry,
         )
     };
     if number != 0 {
-        return Err(Refusal::of(number, entry, [0; 2]));
+        return Err(Refusal::of(number, carried));
     }
     Ok(Sums {
         x: xyz[0],

@@ -49,13 +49,25 @@ pub enum Refusal {
     Offset,
     /// 12
     Unusable,
+    /// 13: the line's number, from 1.
+    Malformed { line: usize },
+    /// 14: the line's number, from 1.
+    OutOfOrder { line: usize },
+}
+
+/// The places that a call lends for what a refusal carries. One that it does not lend stays 0.
+#[derive(Default)]
+pub(crate) struct Carried {
+    pub entry: [usize; 2],
+    pub years: [i32; 2],
+    pub line: usize,
 }
 
 impl Refusal {
-    /// The refusal of a number that is not 0, with the places that its call lent for what a refusal
-    /// carries.
+    /// The refusal of a number that is not 0.
     #[cold]
-    pub(crate) fn of(number: u32, entry: [usize; 2], years: [i32; 2]) -> Refusal {
+    pub(crate) fn of(number: u32, carried: Carried) -> Refusal {
+        let Carried { entry, years, line } = carried;
         match number {
             1 => Refusal::Height {
                 min_km: -1.0,
@@ -91,11 +103,13 @@ impl Refusal {
             9 => Refusal::Colatitude,
             10 => Refusal::Ratio,
             11 => Refusal::Offset,
-            _ => Refusal::Unusable,
+            12 => Refusal::Unusable,
+            13 => Refusal::Malformed { line },
+            _ => Refusal::OutOfOrder { line },
         }
     }
 
-    /// The number, 1 to 12.
+    /// The number, 1 to 14.
     pub fn number(&self) -> u32 {
         match self {
             Refusal::Height { .. } => 1,
@@ -110,6 +124,8 @@ impl Refusal {
             Refusal::Ratio => 10,
             Refusal::Offset => 11,
             Refusal::Unusable => 12,
+            Refusal::Malformed { .. } => 13,
+            Refusal::OutOfOrder { .. } => 14,
         }
     }
 }
@@ -141,6 +157,12 @@ impl fmt::Display for Refusal {
             Refusal::Ratio => f.write_str("the radius ratio is not from 0.875 to 1.015625"),
             Refusal::Offset => f.write_str("the offset is not from 0 to 5 years"),
             Refusal::Unusable => f.write_str("a number cannot be used: not finite, or out of range"),
+            Refusal::Malformed { line } => {
+                write!(f, "line {line} is not what a coefficient file has there")
+            }
+            Refusal::OutOfOrder { line } => {
+                write!(f, "line {line} of the coefficient file is out of order or missing")
+            }
         }
     }
 }

@@ -73,6 +73,22 @@ extern "C" {
         offset: &mut f32,
     ) -> u32;
 
+    pub fn njerumoy_read_cof(
+        text: *const u8,
+        text_length: usize,
+        g: *mut f32,
+        g_length: usize,
+        h: *mut f32,
+        h_length: usize,
+        g_dot: *mut f32,
+        g_dot_length: usize,
+        h_dot: *mut f32,
+        h_dot_length: usize,
+        epoch_year: &mut i32,
+        entry: &mut [usize; 2],
+        line: &mut usize,
+    ) -> u32;
+
     pub fn njerumoy_horizontal(x: f32, y: f32, z: f32, h: &mut f32) -> u32;
 
     pub fn njerumoy_total(x: f32, y: f32, z: f32, f: &mut f32) -> u32;

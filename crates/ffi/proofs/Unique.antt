@@ -4,6 +4,7 @@ use mathlib.Core.Path.{_≡_, sym, _∙_}
 use Rattle.refusals.specs.OneResult.{OneResult}
 use Rattle.ffi.proofs.fields.njerumoy_field as field-fn
 use Rattle.ffi.proofs.fields.njerumoy_allowance as allowance-fn
+use Rattle.ffi.proofs.files.njerumoy_read_cof as read-cof-fn
 use Rattle.ffi.proofs.sums.njerumoy_sum as sum-fn
 use Rattle.ffi.proofs.days.njerumoy_epoch as epoch-fn
 use Rattle.ffi.proofs.records.njerumoy_horizontal as horizontal-fn
@@ -74,3 +75,11 @@ pub njerumoy-square-root : OneResult square-root-fn.Kinds.ps square-root-fn.Kind
 njerumoy-square-root κs a x y u v p q =
     let root = same (p .1) (q .1) in
     (same (p .0) (q .0), λ i. (tt, (root i, tt)))
+
+pub njerumoy-read-cof : OneResult read-cof-fn.Kinds.ps read-cof-fn.Kinds.r read-cof-fn.Reads.Post
+njerumoy-read-cof κs a x y u v p q =
+    let lists = same (p .0 .1) (q .0 .1) in
+    let year = same (p .0 .2) (q .0 .2) in
+    let entry = same (p .0 .3) (q .0 .3) in
+    let line = same (p .0 .4) (q .0 .4) in
+    (same (p .0 .0) (q .0 .0), λ i. (tt, (lists i .g, (lists i .h, (lists i .g-dot, (lists i .h-dot, (year i, (entry i, (line i, tt)))))))))

@@ -1,5 +1,5 @@
 -- What a caller in another language is told of an answer: one number, and what the places hold that it lent for results. Definitions only.
-use mathlib.Core.Bool.{cond}
+use mathlib.Core.Bool.{_||_, cond}
 use mathlib.Core.List.{List, [], _∷_}
 use Prim.Native.Nat.{ℕ}
 use lib.Dec.{eqb}
@@ -8,7 +8,6 @@ use lib.ListN.{getD}
 use lib.Ieee.{Float, binary32, ofBits}
 use Rattle.refusals.specs.Paper.{Paper, answered, refused}
 use Rattle.models.specs.declared.epochs.EpochOffset.{EpochOffset}
-use Rattle.models.specs.declared.errors.WmmErrorModel.{WmmErrorModel}
 use Rattle.synthesis.specs.declared.Xyz.{Xyz}
 use Rattle.strengths.specs.declared.GeomagneticField.{GeomagneticField}
 use Rattle.strengths.specs.Strengths.{Warning, blackout, caution, no-zone}
@@ -35,6 +34,11 @@ entryPlace held (refused n f z) = cond (eqb n 7) (natAbs (getD z 0 (pos 0)) ∷ 
 abbrev pub yearsPlace : {A : Type 0} → List ℤ → Paper A → List ℤ
 yearsPlace held (answered a) = held
 yearsPlace held (refused n f z) = cond (eqb n 8) z held
+
+-- the place for the line of refusals 13 and 14
+abbrev pub linePlace : {A : Type 0} → ℕ → Paper A → ℕ
+linePlace held (answered a) = held
+linePlace held (refused n f z) = cond (eqb n 13 || eqb n 14) (natAbs (getD z 0 (pos 0))) held
 
 -- ---- how each answer is written
 -- X', Y and Z', in this order
@@ -71,6 +75,10 @@ offsetOf e = e .offset
 -- a strength, as it is
 abbrev pub itself : Float → Float
 itself x = x
+
+-- a year, as it is
+abbrev pub whole : ℤ → ℤ
+whole y = y
 
 -- ---- grid variation: whether there is one, and the place for it, which keeps what it held where there is none
 abbrev pub isGiven : Variation → ℕ

@@ -3,6 +3,7 @@
 // has that result. None has a `requires`: whatever numbers come, the call ends and says so.
 mod days;
 mod fields;
+mod files;
 mod records;
 mod refuse;
 mod sums;

@@ -4,7 +4,7 @@ use refusals::Refusal;
 ghost use mathlib.Core.Path.{_≡_};
 ghost use Prim.Native.Nat.{ℕ};
 ghost use Rattle.refusals.specs.Paper.{paper};
-ghost use Rattle.ffi.specs.Told.{entryPlace, yearsPlace};
+ghost use Rattle.ffi.specs.Told.{entryPlace, linePlace, yearsPlace};
 
 // The list and the index of refusal 7.
 pub fn note_entry(k: Refusal, entry: &mut [usize; 2])
@@ -21,5 +21,18 @@ pub fn note_years(k: Refusal, years: &mut [i32; 2])
 {
     if let Refusal::OtherEpoch { of_day, of_set } = k {
         *years = [of_day, of_set];
+    }
+}
+
+// The line's number, of refusals 13 and 14.
+pub fn note_line(k: Refusal, line: &mut usize)
+    ensures { λ _. ⌜ now (line .exit) ≡ linePlace (now (line .entry)) (paper {A = ℕ} k) ⌝ }
+{
+    if let Refusal::Malformed { line: n } = k {
+        *line = n;
+        return;
+    }
+    if let Refusal::OutOfOrder { line: n } = k {
+        *line = n;
     }
 }

@@ -156,25 +156,35 @@ entries-capped cap k i (x ∷ l) e =
     let u = check-accepted (capped cap x) (Coefficient k i) (entriesVerdict cap k (suc i) l) e in
     subst (λ (b : Bool). T (b && all-capped cap l)) (sym (u .0)) (entries-capped cap k (suc i) l (u .1))
 
-pub listed : (g h gd hd : List Float) → listsVerdict g h gd hd ≡ Verdict.Accepted → Listed g h gd hd
-unfolding listsVerdict
-listed g h gd hd e =
+-- what `long` asks of each list
+pub each-long : (g h gd hd : List Float) → long g h gd hd ≡ true → (length g ≡ N-COEFF) × (length h ≡ N-COEFF) × (length gd ≡ N-COEFF) × (length hd ≡ N-COEFF)
+each-long g h gd hd e =
     let a = eqb (length g) N-COEFF in
     let b = eqb (length h) N-COEFF in
     let c = eqb (length gd) N-COEFF in
     let d = eqb (length hd) N-COEFF in
-    let u = check-accepted (a && b && c && d) Length _ e in
-    let t1 : T (a && b && c && d) = holds (u .0) in
+    let t1 : T (a && b && c && d) = holds e in
     let t2 = and-l (a && b && c) d t1 in
-    let t3 = and-l (a && b) c t2 in
+    let t3 = and-l (a && b) c t2 in (
+      eqb-true (length g) N-COEFF (is-true a (and-l a b t3)),
+      eqb-true (length h) N-COEFF (is-true b (and-r a b t3)),
+      eqb-true (length gd) N-COEFF (is-true c (and-r (a && b) c t2)),
+      eqb-true (length hd) N-COEFF (is-true d (and-r (a && b && c) d t1)),
+    )
+
+pub listed : (g h gd hd : List Float) → listsVerdict g h gd hd ≡ Verdict.Accepted → Listed g h gd hd
+unfolding listsVerdict
+listed g h gd hd e =
+    let u = check-accepted (long g h gd hd) Length _ e in
+    let n = each-long g h gd hd (u .0) in
     let q1 = both-accepted (entriesVerdict main-cap 0 0 g) _ (u .1) in
     let q2 = both-accepted (entriesVerdict main-cap 1 0 h) _ (q1 .1) in
     let q3 = both-accepted (entriesVerdict rate-cap 2 0 gd) _ (q2 .1) in
     record {
-      g-long = eqb-true (length g) N-COEFF (is-true a (and-l a b t3));
-      h-long = eqb-true (length h) N-COEFF (is-true b (and-r a b t3));
-      gd-long = eqb-true (length gd) N-COEFF (is-true c (and-r (a && b) c t2));
-      hd-long = eqb-true (length hd) N-COEFF (is-true d (and-r (a && b && c) d t1));
+      g-long = n .0;
+      h-long = n .1;
+      gd-long = n .2;
+      hd-long = n .3;
       g-capped = entries-capped main-cap 0 0 g (q1 .0);
       h-capped = entries-capped main-cap 1 0 h (q2 .0);
       gd-capped = entries-capped rate-cap 2 0 gd (q3 .0);

@@ -1,7 +1,11 @@
--- The public contract leaves one result: the law is over what the kit makes of the function's `ensures`.
+-- Each public contract leaves one result: the law is over what the kit makes of the function's `ensures`.
 use mathlib.Core.Path.{refl, sym, _∙_}
 use Rattle.refusals.specs.OneResult.{OneResult}
 use Rattle.lists.proofs.check_lists as check-lists-fn
+use Rattle.lists.proofs.lists_long as lists-long-fn
 
 pub check-lists : OneResult check-lists-fn.Kinds.ps check-lists-fn.Kinds.r check-lists-fn.Reads.Post
 check-lists κs a x y u v p q = (p .0 ∙ sym (q .0), refl)
+
+pub lists-long : OneResult lists-long-fn.Kinds.ps lists-long-fn.Kinds.r lists-long-fn.Reads.Post
+lists-long κs a x y u v p q = (p .0 ∙ sym (q .0), refl)

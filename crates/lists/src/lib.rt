@@ -56,8 +56,10 @@ fn lists_within(g: &[f32], h: &[f32], g_dot: &[f32], h_dot: &[f32]) -> bool
     all_within(h_dot, RATE_CAP)
 }
 
-fn lists_long(g: &[f32], h: &[f32], g_dot: &[f32], h_dot: &[f32]) -> bool
-    ensures { λ r. ⌜ r ≡ long (now (g .entry)) (now (h .entry)) (now («g_dot» .entry)) (now («h_dot» .entry)) ⌝ }
+// Each of the four is 90 long.
+pub fn lists_long(g: &[f32], h: &[f32], g_dot: &[f32], h_dot: &[f32]) -> bool
+    ensures answer { λ r. ⌜ r ≡ long (now (g .entry)) (now (h .entry)) (now («g_dot» .entry)) (now («h_dot» .entry)) ⌝ }
+    ensures kept { λ _. ⌜ (now (g .exit) ≡ now (g .entry)) × (now (h .exit) ≡ now (h .entry)) × (now («g_dot» .exit) ≡ now («g_dot» .entry)) × (now («h_dot» .exit) ≡ now («h_dot» .entry)) ⌝ }
 {
     if g.len() != N_COEFF {
         return false;

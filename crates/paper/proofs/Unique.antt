@@ -8,9 +8,11 @@ pub use Rattle.tables.proofs.Unique.{schmidt-table, k-table}
 pub use Rattle.models.proofs.Unique.{known-epoch, epoch, error-model-by-epoch-year}
 pub use Rattle.geocentric.proofs.Unique.{geodetic-to-geocentric, radius-ratio}
 pub use Rattle.synthesis.proofs.Unique.{sum}
-pub use Rattle.lists.proofs.Unique.{check-lists}
+pub use Rattle.lists.proofs.Unique.{check-lists, lists-long}
+pub use Rattle.text.proofs.Unique.{is-blank, first-line, first-word, read-decimal, read-number, read-whole}
+pub use Rattle.agency.proofs.Unique.{read}
 pub use Rattle.strengths.proofs.Unique.{h, f, declination-warning, declination-uncertainty, grid-variation}
 pub use Rattle.field.proofs.Unique.{field}
 pub use Rattle.allowance.proofs.Unique.{allowance}
 pub use Rattle.ffi.proofs.Unique.{njerumoy-field, njerumoy-allowance, njerumoy-sum, njerumoy-epoch, njerumoy-horizontal, njerumoy-total}
-pub use Rattle.ffi.proofs.Unique.{njerumoy-zone, njerumoy-declination-uncertainty, njerumoy-grid-variation, njerumoy-square-root}
+pub use Rattle.ffi.proofs.Unique.{njerumoy-zone, njerumoy-declination-uncertainty, njerumoy-grid-variation, njerumoy-square-root, njerumoy-read-cof}

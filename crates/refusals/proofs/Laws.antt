@@ -44,6 +44,8 @@ cases v =
     Refusal.Ratio ∷
     Refusal.Offset ∷
     Refusal.Unusable ∷
+    Refusal.Malformed (natAbs (whole v 0)) ∷
+    Refusal.OutOfOrder (natAbs (whole v 0)) ∷
     []
 
 -- the first refusal of the list that has the number n
@@ -65,6 +67,8 @@ read-back Refusal.Colatitude = refl
 read-back Refusal.Ratio = refl
 read-back Refusal.Offset = refl
 read-back Refusal.Unusable = refl
+read-back (Refusal.Malformed i) = refl
+read-back (Refusal.OutOfOrder i) = refl
 
 line-of : {A : Type 0} → Paper A → Line
 line-of (answered a) = carries 0 [] []

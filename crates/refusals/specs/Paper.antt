@@ -1,4 +1,4 @@
--- The paper's number and values of every answer. Document 01, "Refusal numbers". Definitions only.
+-- The paper's number and values of every answer. Document 01, "Refusal numbers", and document 02. Definitions only.
 use mathlib.Core.Bool.{Bool, true, false}
 use mathlib.Core.List.{List, [], _∷_}
 use Prim.Native.Nat.{ℕ}
@@ -9,7 +9,7 @@ use Rattle.refusals.specs.declared.Refusal.the-variants as Refusal
 use Rattle.refusals.specs.declared.Verdict.{Verdict}
 use Rattle.refusals.specs.declared.Verdict.the-variants as Verdict
 
--- a line of document 01's table: a refusal's number, the floats and the whole numbers that it carries
+-- a line of the documents' table: a refusal's number, the floats and the whole numbers that it carries
 pub record Line : Type 0 where
   pub number : ℕ
   pub floats : List Float
@@ -32,6 +32,8 @@ line Refusal.Colatitude = carries 9 [] []
 line Refusal.Ratio = carries 10 [] []
 line Refusal.Offset = carries 11 [] []
 line Refusal.Unusable = carries 12 [] []
+line (Refusal.Malformed i) = carries 13 [] (pos i ∷ [])
+line (Refusal.OutOfOrder i) = carries 14 [] (pos i ∷ [])
 
 -- what a call says: its answer, or a refusal's number with the floats and the whole numbers that it carries
 pub data Paper (A : Type 0) : Type 0 where

@@ -34,6 +34,10 @@ pub enum Refusal {
     Offset,
     // 12
     Unusable,
+    // 13: the line's number, from 1 on.
+    Malformed { line: usize },
+    // 14: the number of the line, or of the one that should have been there.
+    OutOfOrder { line: usize },
 }
 
 // A refusal's number.
@@ -53,6 +57,8 @@ pub fn number(k: Refusal) -> u32
         Refusal::Ratio => 10,
         Refusal::Offset => 11,
         Refusal::Unusable => 12,
+        Refusal::Malformed { .. } => 13,
+        Refusal::OutOfOrder { .. } => 14,
     }
 }
 

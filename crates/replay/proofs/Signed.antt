@@ -1,10 +1,11 @@
--- A sign put before a count, and an i32 that has none.
-use mathlib.Core.Path.{_≡_, subst}
-use mathlib.Core.Bool.{false}
+-- A sign put before a count, and the bits of an i32 below zero. Assumes nothing.
+use mathlib.Core.Path.{_≡_, _∙_, ap, sym, subst}
+use mathlib.Core.Bool.{true}
 use Prim.Native.Nat.{ℕ, zero, suc, _≤_, _<_, _^_}
 use native.Mathlib.Omega.{arith}
+use borrow.Author.Tests.{ltb-true}
 use lib.Dec.{T}
-use lib.IntN.{ℤ, pos, negsuc, negℤ, natAbs, _-ℤ_, +ℤ-idl}
+use lib.IntN.{ℤ, pos, negsuc, negℤ, natAbs, _-ℤ_, predℤ, predℤ-+ℤ, +ℤ-idl}
 use lib.Signed.{mag, ltZ, nonNeg}
 use mir.Syntax.{w32, w64}
 use mir.Val.{Fits, SFits, toZ, ofZ}
@@ -26,13 +27,22 @@ minus n h =
     rw (toZ-ofZ w64 (pos 0 -ℤ toZ w64 n) (wide-minus n h), toZ-pos w64 n (omega arith), turned)
     (record { sfits = mag-minus n h })
 
--- ---- what the cast of a signed number to a u64 asks
+-- ---- -1 - z, for a z below zero: the difference fits, and so does its cast to a u64
 abbrev Sized : ℤ → Type 0
 Sized z = T (nonNeg z) × Fits w64 (natAbs z)
 
-sized : (z : ℤ) → mag z < 2 ^ 31 → ltZ z (pos 0) ≡ false → Sized z
-sized (pos n) h e = (tt, record { fits = omega arith })
-sized (negsuc n) h e = absurd (subst T e tt)
+minus-one : (n : ℕ) → negsuc 0 -ℤ negsuc n ≡ pos n
+minus-one n = predℤ-+ℤ (pos 0) (pos (suc n)) ∙ ap predℤ (+ℤ-idl (pos (suc n)))
 
-pub size-above : (z : ℤ) → SFits w32 z → ltZ (toZ w32 (ofZ w32 z)) (pos 0) ≡ false → T (nonNeg (toZ w32 (ofZ w32 z))) × Fits w64 (natAbs (toZ w32 (ofZ w32 z)))
-size-above z f e = rw (toZ-ofZ w32 z f) (sized z (f .sfits) (rw (toZ-ofZ w32 z f) at e))
+below : (z : ℤ) → mag z < 2 ^ 31 → ltZ z (pos 0) ≡ true → SFits w32 (negsuc 0 -ℤ z) × Sized (negsuc 0 -ℤ z)
+below (pos n) h e = absurd (let k = ltb-true n 0 e in omega (arith, k))
+below (negsuc n) h e =
+    subst (λ z. SFits w32 z × Sized z) (sym (minus-one n)) (record { sfits = h }, (tt, record { fits = omega arith }))
+
+pub below-fits : (z : ℤ) → SFits w32 z → ltZ (toZ w32 (ofZ w32 z)) (pos 0) ≡ true → SFits w32 (negsuc 0 -ℤ toZ w32 (ofZ w32 z))
+below-fits z f e = rw (toZ-ofZ w32 z f) (below z (f .sfits) (rw (toZ-ofZ w32 z f) at e) .0)
+
+pub below-size : (z : ℤ) → SFits w32 z → ltZ (toZ w32 (ofZ w32 z)) (pos 0) ≡ true → Sized (toZ w32 (ofZ w32 (negsuc 0 -ℤ toZ w32 (ofZ w32 z))))
+below-size z f e =
+    rw (toZ-ofZ w32 (negsuc 0 -ℤ toZ w32 (ofZ w32 z)) (below-fits z f e), toZ-ofZ w32 z f)
+    (below z (f .sfits) (rw (toZ-ofZ w32 z f) at e) .1)

@@ -9,7 +9,7 @@ use crate::replies::END;
 use crate::replies::OK;
 use crate::replies::Reply;
 use crate::sets;
-use crate::sets::Set;
+use crate::texts;
 use models::EpochAnswer;
 use refusals::Day;
 use roots::RootAnswer;
@@ -43,13 +43,12 @@ pub fn sum_of(
     longitude: Longitude,
     ratio: f32,
     offset: f32,
-    entries: &[f32],
-    set: Set,
+    set: &[f32],
 ) -> SumAnswer {
-    let g = sets::list(entries, sets::G, set.g);
-    let h = sets::list(entries, sets::H, set.h);
-    let g_dot = sets::list(entries, sets::G_DOT, set.g_dot);
-    let h_dot = sets::list(entries, sets::H_DOT, set.h_dot);
+    let g = sets::list(set, sets::G);
+    let h = sets::list(set, sets::H);
+    let g_dot = sets::list(set, sets::G_DOT);
+    let h_dot = sets::list(set, sets::H_DOT);
     synthesis::sum(colatitude, longitude, ratio, offset, g, h, g_dot, h_dot)
 }
 
@@ -67,7 +66,7 @@ fn components(a: SumAnswer) -> Reply {
     }
 }
 
-fn sum(line: &[u8], entries: &[f32], set: Set) -> Reply {
+fn sum(line: &[u8], set: &[f32]) -> Reply {
     let colatitude = Colatitude {
         cos: read::float(line, 3),
         sin: read::float(line, 12),
@@ -78,28 +77,29 @@ fn sum(line: &[u8], entries: &[f32], set: Set) -> Reply {
     };
     let ratio = read::float(line, 39);
     let offset = read::float(line, 48);
-    components(sum_of(colatitude, longitude, ratio, offset, entries, set))
+    components(sum_of(colatitude, longitude, ratio, offset, set))
 }
 
 // A question that can be read.
-fn reply(word: u64, line: &[u8], entries: &[f32], set: Set) -> Reply {
+fn reply(word: u64, line: &[u8], set: &[f32]) -> Reply {
     match word {
-        forms::SUM => sum(line, entries, set),
+        forms::SUM => sum(line, set),
         forms::EPOCH => epoch(read::day(line, 5)),
         forms::SQRT => root(line),
-        forms::FIELD => fields::place(line, entries, set),
+        forms::FIELD => fields::place(line, set),
         forms::STR => fields::strengths(line),
         forms::GV => fields::grid(line),
-        forms::ROW => published::on_day(line, entries, set),
-        forms::MID => published::at_offset(line, entries, set),
+        forms::ROW => published::on_day(line, set),
+        forms::MID => published::at_offset(line, set),
         _ => replies::MALFORMED,
     }
 }
 
-pub fn answer(line: &[u8], entries: &[f32], set: Set) -> Reply {
+pub fn answer(line: &[u8], set: &[f32]) -> Reply {
     let word = read::word(line);
-    if forms::fits(line, word) {
-        return reply(word, line, entries, set);
+    let form = forms::form_of(word);
+    if forms::fits(line, form) {
+        return reply(word, line, set);
     }
-    replies::MALFORMED
+    texts::answer(line, word, form.at)
 }

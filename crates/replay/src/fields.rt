@@ -6,7 +6,6 @@ use crate::replies::OK;
 use crate::replies::Reply;
 use crate::replies::WRONG;
 use crate::sets;
-use crate::sets::Set;
 use field::FieldAnswer;
 use field::Latitude;
 use models::WmmErrorModel;
@@ -17,31 +16,6 @@ use strengths::StrengthAnswer;
 use strengths::ZoneAnswer;
 use synthesis::Longitude;
 ghost use Prim.Native.Nat.{_≤_};
-
-fn field_of(
-    height: f32,
-    latitude: Latitude,
-    longitude: Longitude,
-    day: Day,
-    entries: &[f32],
-    set: Set,
-) -> FieldAnswer {
-    let g = sets::list(entries, sets::G, set.g);
-    let h = sets::list(entries, sets::H, set.h);
-    let g_dot = sets::list(entries, sets::G_DOT, set.g_dot);
-    let h_dot = sets::list(entries, sets::H_DOT, set.h_dot);
-    field::field(
-        height,
-        latitude,
-        longitude,
-        day,
-        set.epoch,
-        g,
-        h,
-        g_dot,
-        h_dot,
-    )
-}
 
 pub fn latitude(line: &[u8], at: usize) -> Latitude
     requires { ⌜ at ≤ 64 ⌝ }
@@ -62,16 +36,19 @@ pub fn longitude(line: &[u8], at: usize) -> Longitude
 }
 
 // What Field says of the place and the day that stand from `at` on.
-pub fn asked(line: &[u8], at: usize, entries: &[f32], set: Set) -> FieldAnswer
+pub fn asked(line: &[u8], at: usize, set: &[f32]) -> FieldAnswer
     requires { ⌜ at ≤ 5 ⌝ }
 {
-    field_of(
+    field::field(
         read::float(line, at),
         latitude(line, at + 9),
         longitude(line, at + 27),
         read::day(line, at + 45),
-        entries,
-        set,
+        sets::epoch(set),
+        sets::list(set, sets::G),
+        sets::list(set, sets::H),
+        sets::list(set, sets::G_DOT),
+        sets::list(set, sets::H_DOT),
     )
 }
 
@@ -94,8 +71,8 @@ fn record(v: GeomagneticField) -> Reply {
     ]
 }
 
-pub fn place(line: &[u8], entries: &[f32], set: Set) -> Reply {
-    match asked(line, 5, entries, set) {
+pub fn place(line: &[u8], set: &[f32]) -> Reply {
+    match asked(line, 5, set) {
         FieldAnswer::Field(v) => record(v),
         FieldAnswer::Refused(why) => replies::refusal(why),
     }

@@ -19,16 +19,22 @@ pub const ROW: u64 = 0x52_4f_57;
 
 pub const MID: u64 = 0x4d_49_44;
 
+pub const DEC: u64 = 0x44_45_43;
+
+pub const WHOLE: u64 = 0x57_48_4f_4c_45;
+
+pub const COF: u64 = 0x43_4f_46;
+
 // What follows the first word, which ends at `at`: floats, then a year and a day or not, then the
 // floats that are listed.
-struct Form {
-    at: usize,
-    floats: usize,
+pub struct Form {
+    pub at: usize,
+    floats: u64,
     has_day: bool,
-    listed: usize,
+    listed: u64,
 }
 
-fn made(at: usize, floats: usize, has_day: bool, listed: usize) -> Form {
+fn made(at: usize, floats: u64, has_day: bool, listed: u64) -> Form {
     Form {
         at,
         floats,
@@ -37,7 +43,9 @@ fn made(at: usize, floats: usize, has_day: bool, listed: usize) -> Form {
     }
 }
 
-fn form_of(word: u64) -> Form {
+// Of DEC, WHOLE and COF only the place is asked: what follows them is a text, and with no text they
+// are no question.
+pub fn form_of(word: u64) -> Form {
     match word {
         SUM => made(3, 6, false, 0),
         FIELD => made(5, 5, true, 0),
@@ -47,6 +55,9 @@ fn form_of(word: u64) -> Form {
         SQRT => made(4, 1, false, 0),
         ROW => made(3, 5, true, 3),
         MID => made(3, 6, false, 3),
+        DEC => made(3, 0, false, 0),
+        WHOLE => made(5, 0, false, 0),
+        COF => made(3, 0, false, 0),
         _ => made(NOWHERE, 0, false, 0),
     }
 }
@@ -58,13 +69,9 @@ fn after_day(line: &[u8], at: usize, has_day: bool) -> usize {
     at
 }
 
-fn has_form(line: &[u8], f: Form) -> bool {
+// The whole question can be read.
+pub fn fits(line: &[u8], f: Form) -> bool {
     let day = read::floats_end(line, f.at, f.floats);
     let listed = after_day(line, day, f.has_day);
     read::floats_end(line, listed, f.listed) == line.len()
-}
-
-// The whole question can be read.
-pub fn fits(line: &[u8], word: u64) -> bool {
-    has_form(line, form_of(word))
 }

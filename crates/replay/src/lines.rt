@@ -5,7 +5,6 @@ use crate::read::NOWHERE;
 use crate::replies;
 use crate::replies::Reply;
 use crate::sets;
-use crate::sets::Set;
 use crate::write;
 ghost use Prim.Native.Nat.{_≤_};
 ghost use lib.ListN.{length};
@@ -15,12 +14,6 @@ pub const LONGEST: usize = 8191;
 
 // How much of a longer one is written back.
 const SHOWN: usize = 64;
-
-// What a line leaves to the next: the place in the output, and the set in force.
-pub struct State {
-    pub at: usize,
-    pub set: Set,
-}
 
 fn is_mark(line: &[u8], at: usize) -> bool {
     let sign = read::after(line, at, b' ');
@@ -53,28 +46,25 @@ fn shown(line: &[u8]) -> usize
 }
 
 // What stands after the part that is shown.
-fn reply(line: &[u8], shown: &[u8], entries: &[f32], set: Set) -> Reply {
+fn reply(line: &[u8], shown: &[u8], set: &[f32]) -> Reply {
     if LONGEST < line.len() {
         return replies::MALFORMED;
     }
     if sets::is_one(line) {
         return replies::NOTHING;
     }
-    answers::answer(shown, entries, set)
+    answers::answer(shown, set)
 }
 
-fn put(line: &[u8], out: &mut [u8], at: usize, entries: &[f32], set: Set) -> usize {
+fn put(line: &[u8], out: &mut [u8], at: usize, set: &[f32]) -> usize {
     let n = shown(line);
     let part = &line[0..n];
     let mark = write::text(out, at, part);
-    let end = write::reply(out, mark, reply(line, part, entries, set));
+    let end = write::reply(out, mark, reply(line, part, set));
     write::byte(out, end, b'\n')
 }
 
-pub fn line(line: &[u8], out: &mut [u8], entries: &mut [f32], state: State) -> State {
-    let set = sets::in_force(line, entries, state.set);
-    State {
-        at: put(line, out, state.at, entries, set),
-        set,
-    }
+pub fn line(line: &[u8], out: &mut [u8], at: usize, set: &mut [f32]) -> usize {
+    sets::take_if_one(line, set);
+    put(line, out, at, set)
 }

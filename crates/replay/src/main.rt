@@ -8,10 +8,11 @@ mod published;
 mod read;
 mod replies;
 mod sets;
+mod texts;
 mod write;
 
 fn main() {
     let mut input = io::large_buffer();
-    let mut entries = [0.0f32; 512];
-    blocks::all(&mut input, &mut entries);
+    let mut set = [0.0f32; 518];
+    blocks::all(&mut input, &mut set);
 }

@@ -6,7 +6,6 @@ use crate::read;
 use crate::replies;
 use crate::replies::END;
 use crate::replies::Reply;
-use crate::sets::Set;
 use field::FieldAnswer;
 use field::Latitude;
 use geocentric::Geocentric;
@@ -76,8 +75,8 @@ fn three(x: f32, y: f32, z: f32) -> Xyz {
 }
 
 // A whole day: the entry Field.
-pub fn on_day(line: &[u8], entries: &[f32], set: Set) -> Reply {
-    match fields::asked(line, 3, entries, set) {
+pub fn on_day(line: &[u8], set: &[f32]) -> Reply {
+    match fields::asked(line, 3, set) {
         FieldAnswer::Field(v) => verdict(three(v.x, v.y, v.z), listed(line)),
         FieldAnswer::Refused(why) => replies::refusal(why),
     }
@@ -93,27 +92,21 @@ fn turned(v: Xyz, p: Geocentric, latitude: Latitude) -> Xyz {
     }
 }
 
-fn sum_at(
-    p: Geocentric,
-    longitude: Longitude,
-    offset: f32,
-    entries: &[f32],
-    set: Set,
-) -> SumAnswer {
+fn sum_at(p: Geocentric, longitude: Longitude, offset: f32, set: &[f32]) -> SumAnswer {
     let colatitude = Colatitude {
         cos: p.cos_theta,
         sin: p.sin_theta,
     };
     let ratio = geocentric::radius_ratio(p.r);
-    answers::sum_of(colatitude, longitude, ratio, offset, entries, set)
+    answers::sum_of(colatitude, longitude, ratio, offset, set)
 }
 
 // A date that is no whole day: the modules, with the offset that is given.
-pub fn at_offset(line: &[u8], entries: &[f32], set: Set) -> Reply {
+pub fn at_offset(line: &[u8], set: &[f32]) -> Reply {
     let latitude = fields::latitude(line, 12);
     let p = geocentric::geodetic_to_geocentric(read::float(line, 3), latitude.sin, latitude.cos);
     let longitude = fields::longitude(line, 30);
-    match sum_at(p, longitude, read::float(line, 48), entries, set) {
+    match sum_at(p, longitude, read::float(line, 48), set) {
         SumAnswer::Sum(v) => verdict(turned(v, p, latitude), listed(line)),
         SumAnswer::Refused(why) => replies::refusal(why),
     }

@@ -1,45 +1,22 @@
 // Reading the words of a line. Each number is read together with the one space before it.
 use refusals::Day;
+ghost use Prim.Native.Nat.{_≤_};
+ghost use lib.ListN.{length};
 
 // The place after a read that failed. No line is so long, so every later read fails there too, and
 // a run of reads is tested once, at its end.
 pub const NOWHERE: usize = usize::MAX;
 
-// What was read, and the place after it.
-pub struct FloatAt {
-    pub value: f32,
-    pub next: usize,
-}
-
-pub struct IntAt {
-    pub value: i32,
-    pub next: usize,
-}
-
-pub struct CountAt {
-    pub value: usize,
-    pub next: usize,
-}
-
-// `left` says how many digits more there could have been.
-struct DigitsAt {
-    value: u64,
+// What was read, and the place after it. `left` says how many digits more there could have been.
+pub struct NumberAt {
+    pub value: u64,
     left: usize,
-    next: usize,
+    pub next: usize,
 }
 
-const NO_FLOAT: FloatAt = FloatAt {
-    value: 0.0,
-    next: NOWHERE,
-};
-
-const NO_INT: IntAt = IntAt {
+const NO_NUMBER: NumberAt = NumberAt {
     value: 0,
-    next: NOWHERE,
-};
-
-const NO_COUNT: CountAt = CountAt {
-    value: 0,
+    left: 0,
     next: NOWHERE,
 };
 
@@ -60,6 +37,21 @@ pub fn word(line: &[u8]) -> u64 {
         i += 1;
     }
     value
+}
+
+// The place of the first byte `b` from `from` on, or the end.
+pub fn find(bytes: &[u8], from: usize, b: u8) -> usize
+    requires { ⌜ from ≤ length (now bytes) ⌝ }
+    ensures { λ r. ⌜ (from ≤ r) × (r ≤ length (now (bytes .entry))) ⌝ }
+{
+    let mut i = from;
+    while i < bytes.len() {
+        if bytes[i] == b {
+            return i;
+        }
+        i += 1;
+    }
+    i
 }
 
 // The place after the byte `b`, if that stands at `at`.
@@ -92,122 +84,109 @@ fn times(value: u64, base: u64) -> u64 {
 
 // Up to `most` digits, of base 16 or 10. A further digit is left standing, and no word ends before a
 // digit.
-fn digits(line: &[u8], start: usize, most: usize, base: u64) -> DigitsAt {
+fn digits(line: &[u8], start: usize, most: usize, base: u64) -> NumberAt {
     let mut value: u64 = 0;
     let mut next = start;
     let mut left = most;
     while left > 0 {
         if line.len() <= next {
-            return DigitsAt { value, left, next };
+            return NumberAt { value, left, next };
         }
         let d = digit(line[next]);
         if base <= d {
-            return DigitsAt { value, left, next };
+            return NumberAt { value, left, next };
         }
         value = times(value, base) % 0x1000_0000_0000_0000 + d % 16;
         next += 1;
         left -= 1;
     }
-    DigitsAt { value, left, next }
-}
-
-fn bits(n: u64) -> u32 {
-    (n % 0x1_0000_0000) as u32
+    NumberAt { value, left, next }
 }
 
 // Exactly 8 hex digits: the bits of a float.
-fn float_at(line: &[u8], at: usize) -> FloatAt {
+fn float_bits(line: &[u8], at: usize) -> NumberAt {
     let d = digits(line, after(line, at, b' '), 8, 16);
     if d.left > 0 {
-        return NO_FLOAT;
+        return NO_NUMBER;
     }
-    FloatAt {
-        value: float32::from_bits(bits(d.value)),
-        next: d.next,
-    }
+    d
+}
+
+// The float of 32 bits.
+pub fn float_of(bits: u64) -> f32 {
+    float32::from_bits((bits % 0x1_0000_0000) as u32)
 }
 
 pub fn float(line: &[u8], at: usize) -> f32 {
-    let f = float_at(line, at);
-    f.value
+    let d = float_bits(line, at);
+    float_of(d.value)
 }
 
 // The place after `n` floats.
-pub fn floats_end(line: &[u8], at: usize, n: usize) -> usize {
+pub fn floats_end(line: &[u8], at: usize, n: u64) -> usize {
     let mut next = at;
-    let mut i = 0;
+    let mut i: u64 = 0;
     while i < n {
-        let f = float_at(line, next);
-        next = f.next;
+        let d = float_bits(line, next);
+        next = d.next;
         i += 1;
     }
     next
 }
 
 // Floats into a list. Gives the place after them.
-fn floats(line: &[u8], at: usize, list: &mut [f32]) -> usize {
+pub fn floats(line: &[u8], at: usize, list: &mut [f32]) -> usize {
     let mut next = at;
     let mut i = 0;
     while i < list.len() {
-        let f = float_at(line, next);
-        list[i] = f.value;
-        next = f.next;
+        let d = float_bits(line, next);
+        list[i] = float_of(d.value);
+        next = d.next;
         i += 1;
     }
     next
 }
 
-fn plus(d: DigitsAt) -> IntAt {
-    let size = d.value;
-    if 2_147_483_647 < size {
-        return NO_INT;
-    }
-    IntAt {
-        value: size as i32,
-        next: d.next,
-    }
-}
-
-fn minus(d: DigitsAt) -> IntAt {
-    let size = d.value;
-    if 2_147_483_648 < size {
-        return NO_INT;
-    }
-    let value = size as i64;
-    IntAt {
-        value: (0 - value) as i32,
-        next: d.next,
-    }
-}
-
-// 1 to `most` decimal digits. No digit at all comes to a number that is too large for all.
-fn decimal(line: &[u8], start: usize, most: usize) -> DigitsAt {
+// 1 to `most` decimal digits, with a value of at most `largest`.
+fn decimal(line: &[u8], start: usize, most: usize, largest: u64) -> NumberAt {
     let d = digits(line, start, most, 10);
     if d.left == most {
-        return DigitsAt {
-            value: u64::MAX,
-            left: most,
-            next: NOWHERE,
-        };
+        return NO_NUMBER;
+    }
+    if largest < d.value {
+        return NO_NUMBER;
     }
     d
 }
 
-pub fn int(line: &[u8], at: usize) -> IntAt {
+// A signed number of 32 bits, in two's complement.
+pub fn int(line: &[u8], at: usize) -> NumberAt {
     let start = after(line, at, b' ');
     let signed = after(line, start, b'-');
     if signed == NOWHERE {
-        return plus(decimal(line, start, 10));
+        return decimal(line, start, 10, 0x7fff_ffff);
     }
-    minus(decimal(line, signed, 10))
+    let mut d = decimal(line, signed, 10, 0x8000_0000);
+    d.value = 0x1_0000_0000 - d.value % 0x1_0000_0000;
+    d
+}
+
+// The number that 32 bits are in two's complement. For -0 `int` gives one bit more.
+pub fn signed(bits: u64) -> i32 {
+    let low = bits % 0x1_0000_0000;
+    if low < 0x8000_0000 {
+        return low as i32;
+    }
+    let size = (0x1_0000_0000 - low) as i64;
+    (0 - size) as i32
 }
 
 pub fn day(line: &[u8], at: usize) -> Day {
     let year = int(line, at);
     let day_of_year = int(line, year.next);
     Day {
-        year: year.value,
-        day_of_year: day_of_year.value,
+        year: signed(year.value),
+        day_of_year: signed(day_of_year.value),
     }
 }
 
@@ -218,34 +197,13 @@ pub fn day_end(line: &[u8], at: usize) -> usize {
     day_of_year.next
 }
 
-fn count(line: &[u8], at: usize) -> CountAt {
-    let d = decimal(line, after(line, at, b' '), 3);
-    let value = d.value;
-    if 128 < value {
-        return NO_COUNT;
-    }
-    CountAt {
-        value: value as usize,
-        next: d.next,
-    }
+// How many floats a list has: at most 128.
+pub fn count(line: &[u8], at: usize) -> NumberAt {
+    decimal(line, after(line, at, b' '), 3, 128)
 }
 
 // The place after a count and so many floats.
 pub fn list_end(line: &[u8], at: usize) -> usize {
     let n = count(line, at);
     floats_end(line, n.next, n.value)
-}
-
-// A count and so many floats, into `lists` from `start` on.
-pub fn list(line: &[u8], at: usize, lists: &mut [f32], start: usize) -> CountAt {
-    let n = count(line, at);
-    let size = n.value;
-    if lists.len() < start {
-        return NO_COUNT;
-    }
-    if lists.len() - start < size {
-        return NO_COUNT;
-    }
-    let next = floats(line, n.next, &mut lists[start..start + size]);
-    CountAt { value: size, next }
 }

@@ -2,8 +2,8 @@
 // many bytes of `out` wait there. Each function takes the place and gives the next.
 use crate::replies::END;
 use crate::replies::Reply;
-use crate::replies::UNREAD;
 use libc::STDOUT_FILENO;
+ghost use Prim.Native.Nat.{_≤_};
 
 pub fn byte(out: &mut [u8], at: usize, b: u8) -> usize {
     if at < out.len() {
@@ -34,54 +34,55 @@ pub fn flush(out: &mut [u8], at: usize) {
     }
 }
 
-fn first_letter(word: u64) -> u8 {
-    (word / 0x100_0000_0000_0000 % 256) as u8
-}
+// The word =, of the mark. The mark's second space is the one before the answer's first word.
+const MARK: u64 = 0x3d00_0000_0000_0000;
 
-fn letters(out: &mut [u8], at: usize, word: u64) -> usize {
-    let mut next = at;
-    let mut rest = word;
-    let mut i: usize = 0;
-    while i < 8 {
-        if rest == END {
-            return next;
-        }
-        next = byte(out, next, first_letter(rest));
-        rest = rest % 0x100_0000_0000_0000 * 256;
-        i += 1;
+// The word `n` of what is written: first the mark's, then the answer's.
+fn word(reply: Reply, n: usize) -> u64
+    requires { ⌜ n ≤ 12 ⌝ }
+{
+    if n > 0 {
+        return reply[n - 1];
     }
-    next
+    if reply[0] == END {
+        return END;
+    }
+    MARK
 }
 
-// A space, and the word.
-fn word(out: &mut [u8], at: usize, word: u64) -> usize {
-    let next = byte(out, at, b' ');
-    letters(out, next, word)
+// The byte `n` of a word: first the space before it, then its letters, and 0 where nothing is to be
+// written. Letters have 7 bits. A word whose highest bit is set has no space before it.
+fn letter(word: u64, n: usize) -> u8
+    requires { ⌜ n ≤ 8 ⌝ }
+{
+    if n > 0 {
+        return ((word >> (64 - 8 * n)) % 128) as u8;
+    }
+    if word < 0x8000_0000_0000_0000 {
+        b' '
+    } else {
+        0
+    }
 }
 
-fn words(out: &mut [u8], at: usize, reply: Reply) -> usize {
+fn byte_if_any(out: &mut [u8], at: usize, b: u8) -> usize {
+    if b == 0 {
+        return at;
+    }
+    byte(out, at, b)
+}
+
+// The mark and the answer: 13 words of nine bytes each.
+pub fn reply(out: &mut [u8], at: usize, reply: Reply) -> usize {
     let mut next = at;
     let mut i: usize = 0;
-    while i < 12 {
-        let w = reply[i];
+    while i < 117 {
+        let w = word(reply, i / 9);
         if w == END {
             return next;
         }
-        next = word(out, next, w);
+        next = byte_if_any(out, next, letter(w, i % 9));
         i += 1;
     }
     next
-}
-
-// The mark and the answer. The mark's second space is the one before the answer's first word.
-pub fn reply(out: &mut [u8], at: usize, reply: Reply) -> usize {
-    let first = reply[0];
-    if first == END {
-        return at;
-    }
-    if first == UNREAD {
-        return text(out, at, b" = malformed");
-    }
-    let next = text(out, at, b" =");
-    words(out, next, reply)
 }

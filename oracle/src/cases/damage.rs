@@ -1,13 +1,13 @@
 //! Damaged lines: a good line with its text spoilt. Most cannot be read. Some still can, and then
 //! have their answer.
 use super::rng::Rng;
-use super::{lists, Generator};
+use super::{lists, text_case, Generator, Kind};
 use crate::entries::Set;
 use crate::format::{parse_set, put_case, put_set};
 use crate::replay::Replay;
 
 /// Bytes that a line can meet. No newline, which would end the line.
-const BYTES: &[u8] = b" =-+.0123456789abcdefABCDEFgGxSUMFIELDQRTV_#\t\r\x7f\xc3\xff";
+const BYTES: &[u8] = b" =-+.;0123456789abcdefABCDEFgGxSUMFIELDQRTVWHO_#\t\r\x7f\xc3\xff";
 
 /// Words that a number may be taken for.
 const WORDS: [&[u8]; 26] = [
@@ -70,33 +70,50 @@ fn spoil(rng: &mut Rng, text: &mut Vec<u8>) {
     }
 }
 
+/// A SET line with short lists, so that the numbers of entries are met often.
+fn short_set(rng: &mut Rng) -> Set {
+    let way = rng.below(lists::SETS);
+    let epoch_year = rng.pick(&[2020, 2025]);
+    let mut lists = lists::lists(rng, way);
+    let shortest = rng.below(3);
+    for list in &mut lists {
+        list.truncate(shortest);
+    }
+    Set { epoch_year, lists }
+}
+
+/// A good line without its answer. Before it stands a SET line where it needs one.
+fn good_line(generator: &mut Generator, out: &mut Vec<u8>) -> Vec<u8> {
+    let mut line = Vec::new();
+    let case = match generator.rng.below(10) {
+        0 => generator.sum_case(None, out),
+        1 => generator.field_case(None, out),
+        2 => generator.epoch_case(None),
+        3 => generator.str_case(None),
+        4 => generator.gv_case(None),
+        5 => generator.sqrt_case(None),
+        6 => {
+            put_set(&mut line, &short_set(&mut generator.rng));
+            return line;
+        }
+        way => {
+            let kind = [Kind::Dec, Kind::Whole, Kind::Cof][way - 7];
+            let mut text = generator.text(kind, None);
+            // the beginning of a file
+            text.truncate(1 + generator.rng.below(64));
+            put_case(&mut line, &text_case(kind, &text));
+            return line;
+        }
+    };
+    put_case(&mut line, &case);
+    line
+}
+
 /// Writes one damaged line with its answer. It is no SET line that can be read, and a right run
 /// writes it back as it is.
 pub fn bad_line(generator: &mut Generator, out: &mut Vec<u8>) {
     loop {
-        let mut text = Vec::new();
-        let kind = generator.rng.below(7);
-        if kind == 6 {
-            let way = generator.rng.below(lists::SETS);
-            let epoch_year = generator.rng.pick(&[2020, 2025]);
-            let mut lists = lists::lists(&mut generator.rng, way);
-            // short lists, so that the numbers of entries are met often
-            let shortest = generator.rng.below(3);
-            for list in &mut lists {
-                list.truncate(shortest);
-            }
-            put_set(&mut text, &Set { epoch_year, lists });
-        } else {
-            let case = match kind {
-                0 => generator.sum_case(None, out),
-                1 => generator.field_case(None, out),
-                2 => generator.epoch_case(None),
-                3 => generator.str_case(None),
-                4 => generator.gv_case(None),
-                _ => generator.sqrt_case(None),
-            };
-            put_case(&mut text, &case);
-        }
+        let mut text = good_line(generator, out);
         for _ in 0..generator.rng.below(3) + 1 {
             spoil(&mut generator.rng, &mut text);
         }

@@ -59,7 +59,7 @@ impl Generator {
         }
     }
 
-    pub fn sum_case(&mut self, place: Option<usize>, out: &mut Vec<u8>) -> Case {
+    pub fn sum_case(&mut self, place: Option<usize>, out: &mut Vec<u8>) -> Case<'static> {
         self.need_set(out);
         let rng = &mut self.rng;
         let ways = match place {
@@ -89,7 +89,7 @@ impl Generator {
         }
     }
 
-    pub fn field_case(&mut self, place: Option<usize>, out: &mut Vec<u8>) -> Case {
+    pub fn field_case(&mut self, place: Option<usize>, out: &mut Vec<u8>) -> Case<'static> {
         self.need_set(out);
         let rng = &mut self.rng;
         let mut date = None;
@@ -144,7 +144,7 @@ impl Generator {
         (year, day)
     }
 
-    pub fn epoch_case(&mut self, place: Option<usize>) -> Case {
+    pub fn epoch_case(&mut self, place: Option<usize>) -> Case<'static> {
         let planned = plans(&self.epoch_ways);
         let (year, day) = match place {
             Some(place) if place >= planned => day_at(place - planned),

@@ -9,7 +9,7 @@ pub const STRENGTHS: usize = 4 * 17;
 pub const WRAPS: usize = 4 * 7;
 
 impl Generator {
-    pub fn str_case(&mut self, place: Option<usize>) -> Case {
+    pub fn str_case(&mut self, place: Option<usize>) -> Case<'static> {
         let planned = plans(&self.str_ways);
         let ways = match place {
             Some(place) if place < planned => plan(&self.str_ways, place),
@@ -35,7 +35,7 @@ impl Generator {
     }
 
     /// Components whose H is exactly a turning strength, or a few steps beside it.
-    fn turning_case(&mut self, place: usize) -> Case {
+    fn turning_case(&mut self, place: usize) -> Case<'static> {
         let rng = &mut self.rng;
         let h = step(turning_strengths()[place % 4], place as i32 / 4 - 8);
         let z = rng.between(-70000.0, 70000.0) as f32;
@@ -52,7 +52,7 @@ impl Generator {
         }
     }
 
-    pub fn gv_case(&mut self, place: Option<usize>) -> Case {
+    pub fn gv_case(&mut self, place: Option<usize>) -> Case<'static> {
         let planned = plans(&self.gv_ways);
         let ways = match place {
             Some(place) if place < planned => plan(&self.gv_ways, place),
@@ -86,7 +86,7 @@ impl Generator {
     }
 
     /// Grid variation at 180 or -180, or a few steps beside it, before the wrap.
-    fn wrap_case(&mut self, place: usize) -> Case {
+    fn wrap_case(&mut self, place: usize) -> Case<'static> {
         let rng = &mut self.rng;
         let north = place & 1 == 0;
         let end: f32 = if place & 2 == 0 { 180.0 } else { -180.0 };
@@ -101,7 +101,7 @@ impl Generator {
         }
     }
 
-    pub fn sqrt_case(&mut self, place: Option<usize>) -> Case {
+    pub fn sqrt_case(&mut self, place: Option<usize>) -> Case<'static> {
         let rng = &mut self.rng;
         let x = match place {
             Some(place) => self.pools.root[place],

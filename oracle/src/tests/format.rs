@@ -1,6 +1,7 @@
 //! Lines: what can be read, what cannot, and how each is written back.
 use crate::entries::Set;
 use crate::format::{parse_case, parse_set, put_case, put_set};
+use crate::layout::published_file;
 use crate::models::model_by_epoch_year;
 use crate::replay::{answer, LONGEST};
 use std::io::BufReader;
@@ -15,7 +16,7 @@ fn answered(input: &[u8]) -> String {
 
 #[test]
 fn questions_round_trip() {
-    let lines: [&[u8]; 7] = [
+    let lines: [&[u8]; 13] = [
         b"SUM 00000000 3f800000 80000000 bf800000 3f600000 40a00000",
         b"FIELD 494f8500 3f800000 b33bbd2e 7fc00000 ff800001 -2147483648 2147483647",
         b"EPOCH 0 -1",
@@ -23,6 +24,12 @@ fn questions_round_trip() {
         b"GV 425c0000 c3340000 43340000",
         b"SQRT ffffffff",
         b"SQRT 7f800001",
+        b"DEC -29351.8",
+        b"DEC ;\t\r\0\xff",
+        b"WHOLE 2025.0",
+        b"COF ",
+        b"COF  \t2025.0  x\r;  1  0 ; ",
+        b"COF ;\0\xff",
     ];
     for line in lines {
         let mut written = Vec::new();
@@ -158,6 +165,21 @@ fn malformed_lines() {
         "SET 2020 -0 0 0 0",
         "SET 2147483648 0 0 0 0",
         "SUM 1 2 3",
+        "DEC",
+        "DEC ",
+        "DEC  5",
+        "DEC 5 ",
+        "DEC 5 5",
+        "dec 5",
+        "WHOLE",
+        "WHOLE ",
+        "WHOLE 5 0",
+        " WHOLE 5",
+        "COF",
+        " COF 2025.0",
+        "COF\t2025.0",
+        "COF;2025.0",
+        "cof 2025.0",
         "malformed",
     ];
     for line in lines {
@@ -216,4 +238,80 @@ fn ends_of_input_and_long_lines() {
             format!("{} = malformed\n{after}", &line[..64])
         );
     }
+}
+
+#[test]
+fn words() {
+    let cases = [
+        ("DEC 16777217", "0 4b800000"),
+        ("DEC -0.0", "0 80000000"),
+        ("DEC 999999999", "0 4e6e6b28"),
+        ("DEC 1234567890", "13"),
+        ("DEC +5", "13"),
+        ("DEC 5\t", "13"),
+        ("DEC ;", "13"),
+        ("WHOLE 2025.0", "0 000007e9"),
+        ("WHOLE -5", "0 fffffffb"),
+        ("WHOLE -0", "0 00000000"),
+        ("WHOLE 999999999", "0 3b9ac9ff"),
+        ("WHOLE -999999999", "0 c4653601"),
+        ("WHOLE 2025.5", "13"),
+        ("WHOLE 5.", "13"),
+    ];
+    for (question, said) in cases {
+        let expected = format!("{question} = {said}\n");
+        assert_eq!(answered(question.as_bytes()), expected);
+        assert_eq!(answered(format!("{question} = 0 \n").as_bytes()), expected);
+    }
+}
+
+/// The sums of lists that were left alone and of those of 2025, worked out apart from this program.
+const ALONE: &str = "86d4cb65 8fcaf65d";
+const OF_2025: &str = "ed1d7aeb ad739b64";
+
+#[test]
+fn files() {
+    let lines = |text: &[u8]| String::from_utf8(text.to_vec()).unwrap().replace('\n', ";");
+    let whole = lines(&published_file(2025).unwrap());
+    let cases = [
+        // an empty file, and one with nothing but a space
+        (String::new(), format!("14 1 {ALONE}")),
+        (" ".into(), format!("13 1 {ALONE}")),
+        ("2025.0".into(), format!("14 2 {ALONE}")),
+        (" 2025.0;;".into(), format!("13 2 {ALONE}")),
+        ("2025.0 ;\t9 ".into(), format!("14 2 {ALONE}")),
+        (whole.replace("2025.0", "2025.5"), format!("13 1 {ALONE}")),
+        (
+            whole.replace("  4545.4", " 65536.1"),
+            format!("7 1 1 {ALONE}"),
+        ),
+        (format!("{whole};"), format!("13 94 {ALONE}")),
+        (
+            whole.replace("2025.0", "-1"),
+            format!("0 ffffffff {OF_2025}"),
+        ),
+        (whole.replace(';', "\r;"), format!("0 000007e9 {OF_2025}")),
+        (whole.clone(), format!("0 000007e9 {OF_2025}")),
+    ];
+    for (text, said) in cases {
+        let expected = format!("COF {text} = {said}\n");
+        assert_eq!(answered(format!("COF {text}\n").as_bytes()), expected);
+        assert_eq!(answered(format!("COF {text} = 0 = 1").as_bytes()), expected);
+    }
+    // the first mark ends the text
+    assert_eq!(answered(b"COF = 5\n"), "COF = malformed\n");
+    assert_eq!(
+        answered(b"COF 5 = 6;7 = 8\n"),
+        format!("COF 5 = 14 2 {ALONE}\n")
+    );
+    let long = format!("COF {}", " ".repeat(LONGEST - 4));
+    assert_eq!(
+        answered(long.as_bytes()),
+        format!("{long} = 13 1 {ALONE}\n")
+    );
+    let longer = format!("{long} ");
+    assert_eq!(
+        answered(longer.as_bytes()),
+        format!("{} = malformed\n", &long[..64])
+    );
 }

@@ -3,8 +3,9 @@ use crate::cases::{write_cases, Kind, KINDS};
 use crate::entries::{off_the_circle, within, Set, CAPS, CIRCLE_SLACK};
 use crate::field::{geodetic_to_geocentric, NEAR_POLE_SIN_THETA_MIN};
 use crate::format::{parse_case, parse_set, Case};
+use crate::layout::published_file;
 use crate::models::{date_to_epoch_year, days_in_year};
-use crate::replay::answer;
+use crate::replay::{answer, LONGEST};
 use std::collections::BTreeSet;
 
 fn generated(seed: u64, count: u64) -> Vec<u8> {
@@ -98,6 +99,9 @@ fn cases_meet_every_edge() {
         ("STR", &[0, 12]),
         ("GV", &[0, 2, 3, 12]),
         ("SQRT", &[0, 12]),
+        ("DEC", &[0, 13]),
+        ("WHOLE", &[0, 13]),
+        ("COF", &[0, 7, 13, 14]),
     ];
     let mut expected: Vec<String> = vec!["malformed".into(), "field behind the pole".into()];
     for (kind, numbers) in numbers {
@@ -218,5 +222,60 @@ fn cases_meet_every_pair_of_faults() {
                 );
             }
         }
+    }
+}
+
+/// What each answer to a file is, without its sums: whole, or a refusal with what it carries.
+fn file_answers(seed: u64, count: u64) -> Vec<(Vec<u8>, Vec<u32>)> {
+    let mut text = Vec::new();
+    write_cases(seed, count, &[Kind::Cof], &mut text).unwrap();
+    let lines = text
+        .split(|byte| *byte == b'\n')
+        .filter(|line| !line.is_empty());
+    let answers = lines.map(|line| {
+        assert!(line.len() <= LONGEST);
+        let at = line.windows(3).position(|part| part == b" = ").unwrap();
+        let said = String::from_utf8(line[at + 3..].to_vec()).unwrap();
+        let mut words: Vec<&str> = said.split(' ').collect();
+        words.truncate(words.len() - 2);
+        // the year of a whole file does not matter here
+        words.truncate(if words[0] == "0" { 1 } else { 3 });
+        let words = words.iter().map(|word| word.parse().unwrap()).collect();
+        (line[4..at].to_vec(), words)
+    });
+    answers.collect()
+}
+
+#[test]
+fn files_meet_every_refusal() {
+    let answers = file_answers(3, 10_000);
+    let met: BTreeSet<Vec<u32>> = answers.iter().map(|answer| answer.1.clone()).collect();
+    let count = |number: u32| {
+        answers
+            .iter()
+            .filter(|answer| answer.1[0] == number)
+            .count()
+    };
+    for number in [0, 7, 13, 14] {
+        assert!(count(number) > 100, "{number}: {}", count(number));
+    }
+    // each of the coefficient lines malformed and out of order, and an entry of each list
+    for line in 1..=92 {
+        assert!(met.contains(&vec![13, line]), "never met: 13 {line}");
+    }
+    for line in 1..=91 {
+        assert!(met.contains(&vec![14, line]), "never met: 14 {line}");
+    }
+    for list in 0..4 {
+        assert!(met.iter().any(|said| said[0] == 7 && said[1] == list));
+    }
+    let texts: BTreeSet<&Vec<u8>> = answers.iter().map(|answer| &answer.0).collect();
+    assert!(texts.len() > 8000, "{}", texts.len());
+    for epoch_year in [2020, 2025] {
+        let mut whole = published_file(epoch_year).unwrap();
+        for byte in whole.iter_mut().filter(|byte| **byte == b'\n') {
+            *byte = b';';
+        }
+        assert!(texts.contains(&whole));
     }
 }

@@ -17,7 +17,7 @@ lists-long-requires : tie.Need-lists-long-requires
 lists-long-requires c κs = search needs
 
 returns : tie.Need-returns
-returns c = (too-short _ _ _ _ (sym (c .before .lists-long .ensures) ∙ not-true _ (c .if1 .taken)), (refl, refl, refl, refl))
+returns c = (too-short _ _ _ _ (sym (c .before .lists-long .ensures .0) ∙ not-true _ (c .if1 .taken)), (refl, refl, refl, refl))
 
 lists-within-requires : tie.Need-lists-within-requires
 lists-within-requires c κs = search needs
@@ -26,7 +26,7 @@ returns-2 : tie.Need-returns-2
 returns-2 c =
     let w = c .before in
     let o = w .before in
-    (lists-pass _ _ _ _ (held (o .before .lists-long .ensures) (o .if1 .left)) (same (w .lists-within .ensures) (c .if2 .taken)), (refl, refl, refl, refl))
+    (lists-pass _ _ _ _ (held (o .before .lists-long .ensures .0) (o .if1 .left)) (same (w .lists-within .ensures) (c .if2 .taken)), (refl, refl, refl, refl))
 
 check-entries-requires : tie.Need-check-entries-requires
 check-entries-requires c κs = search needs
@@ -38,7 +38,7 @@ returns-3 : tie.Need-returns-3
 returns-3 c =
     let f0 = c .before .before .before in
     let o = f0 .before .before .before in
-    (bad-g _ _ _ _ (held (o .before .lists-long .ensures) (o .if1 .left)) _ (same (f0 .check-entries .ensures) (c .before .k .given .1)), (refl, refl, refl, refl))
+    (bad-g _ _ _ _ (held (o .before .lists-long .ensures .0) (o .if1 .left)) _ (same (f0 .check-entries .ensures) (c .before .k .given .1)), (refl, refl, refl, refl))
 
 enum-told : tie.Need-enum-told
 enum-told c = search needs
@@ -57,7 +57,7 @@ returns-4 c =
     let o = f0 .before .before .before in
     let h = now (o .before .before .before .before .before .before .args .h) in
     let e : f1 .check-entries2 .result ≡ entriesVerdict main-cap 1 0 h = f1 .check-entries2 .ensures in
-    (bad-h _ _ _ _ (held (o .before .lists-long .ensures) (o .if1 .left)) (same (f0 .check-entries .ensures) (t0 .enum-told .given .1)) _ (same e (c .before .k2 .given .1)), (refl, refl, refl, refl))
+    (bad-h _ _ _ _ (held (o .before .lists-long .ensures .0) (o .if1 .left)) (same (f0 .check-entries .ensures) (t0 .enum-told .given .1)) _ (same e (c .before .k2 .given .1)), (refl, refl, refl, refl))
 
 enum-told-2 : tie.Need-enum-told-2
 enum-told-2 c = search needs
@@ -76,7 +76,7 @@ returns-5 c =
     let t0 = f1 .before in
     let f0 = t0 .before .before in
     let o = f0 .before .before .before in
-    (bad-gd _ _ _ _ (held (o .before .lists-long .ensures) (o .if1 .left)) (same (f0 .check-entries .ensures) (t0 .enum-told .given .1)) (same (f1 .check-entries2 .ensures) (t1 .enum-told2 .given .1)) _ (same (f2 .check-entries3 .ensures) (c .before .k3 .given .1)), (refl, refl, refl, refl))
+    (bad-gd _ _ _ _ (held (o .before .lists-long .ensures .0) (o .if1 .left)) (same (f0 .check-entries .ensures) (t0 .enum-told .given .1)) (same (f1 .check-entries2 .ensures) (t1 .enum-told2 .given .1)) _ (same (f2 .check-entries3 .ensures) (c .before .k3 .given .1)), (refl, refl, refl, refl))
 
 enum-told-3 : tie.Need-enum-told-3
 enum-told-3 c = search needs
@@ -93,7 +93,7 @@ returns-6 c =
     let t0 = f1 .before in
     let f0 = t0 .before .before in
     let o = f0 .before .before .before in
-    (c .check-entries4 .ensures ∙ last-list _ _ _ _ (held (o .before .lists-long .ensures) (o .if1 .left)) (same (f0 .check-entries .ensures) (t0 .enum-told .given .1)) (same (f1 .check-entries2 .ensures) (t1 .enum-told2 .given .1)) (same (f2 .check-entries3 .ensures) (t2 .enum-told3 .given .1)), (refl, refl, refl, refl))
+    (c .check-entries4 .ensures ∙ last-list _ _ _ _ (held (o .before .lists-long .ensures .0) (o .if1 .left)) (same (f0 .check-entries .ensures) (t0 .enum-told .given .1)) (same (f1 .check-entries2 .ensures) (t1 .enum-told2 .given .1)) (same (f2 .check-entries3 .ensures) (t2 .enum-told3 .given .1)), (refl, refl, refl, refl))
 
 pub check-lists-spec : {M : Type 1} → statement M
 check-lists-spec =

@@ -7,16 +7,16 @@ use Rattle.replay.proofs.blocks.all.Statement.{statement}
 use Rattle.replay.proofs.blocks.all.Tie as tie
 
 abbrev Inv-loop : tie.InvT-loop
-Inv-loop input₀ entries₀ turns₀ run₀ input entries turns run = (length input ≡ length input₀) × (length entries ≡ length entries₀)
+Inv-loop input₀ set₀ turns₀ kept₀ input set turns kept = (length input ≡ length input₀) × (length set ≡ length set₀)
 
 abbrev μ-loop : tie.MeasureT-loop
-μ-loop input₀ entries₀ turns₀ run₀ input entries turns run = turns
+μ-loop input₀ set₀ turns₀ kept₀ input set turns kept = turns
 
 loop-holds : tie.Need-loop-holds Inv-loop μ-loop
 loop-holds c = search needs
 
-turn-requires : tie.Need-turn-requires Inv-loop μ-loop
-turn-requires c κs = search needs
+fill-requires : tie.Need-fill-requires Inv-loop μ-loop
+fill-requires c κs = search needs
 
 same-length : tie.Need-same-length Inv-loop μ-loop
 same-length c = search needs
@@ -26,6 +26,12 @@ same-length-2 c = search needs
 
 returns : tie.Need-returns Inv-loop μ-loop
 returns c = search needs
+
+answered-requires : tie.Need-answered-requires Inv-loop μ-loop
+answered-requires c κs = search needs
+
+keep-requires : tie.Need-keep-requires Inv-loop μ-loop
+keep-requires c κs = search needs
 
 sub-turns : tie.Need-sub-turns Inv-loop μ-loop
 sub-turns c = search needs
@@ -52,10 +58,12 @@ all-spec =
     Inv-loop
     μ-loop
     loop-holds
-    turn-requires
+    fill-requires
     same-length
     same-length-2
     returns
+    answered-requires
+    keep-requires
     sub-turns
     loop-less
     loop-again

@@ -8,13 +8,13 @@ use Rattle.replay.proofs.blocks.whole_lines.Statement.{statement}
 use Rattle.replay.proofs.blocks.whole_lines.Tie as tie
 
 abbrev Inv-loop : tie.InvT-loop
-Inv-loop block out₀ entries₀ state₀ from₀ end₀ out entries state from end = (from ≤ end) × ((end ≤ length block) × ((length out ≡ length out₀) × (length entries ≡ length entries₀)))
+Inv-loop block out₀ set₀ at₀ from₀ end₀ out set at from end = (from ≤ end) × ((end ≤ length block) × ((length out ≡ length out₀) × (length set ≡ length set₀)))
 
 abbrev μ-loop : tie.MeasureT-loop
-μ-loop block out₀ entries₀ state₀ from₀ end₀ out entries state from end = length block - from
+μ-loop block out₀ set₀ at₀ from₀ end₀ out set at from end = length block - from
 
-newline-requires : tie.Need-newline-requires Inv-loop μ-loop
-newline-requires c κs = search needs
+find-requires : tie.Need-find-requires Inv-loop μ-loop
+find-requires c κs = search needs
 
 loop-holds : tie.Need-loop-holds Inv-loop μ-loop
 loop-holds c = search needs
@@ -34,8 +34,8 @@ line-requires c κs = search needs
 add-from : tie.Need-add-from Inv-loop μ-loop
 add-from c = search needs
 
-newline-requires-2 : tie.Need-newline-requires-2 Inv-loop μ-loop
-newline-requires-2 c κs = search needs
+find-requires-2 : tie.Need-find-requires-2 Inv-loop μ-loop
+find-requires-2 c κs = search needs
 
 loop-less : tie.Need-loop-less Inv-loop μ-loop
 loop-less c = search needs
@@ -61,14 +61,14 @@ whole-lines-spec =
     (tie.spec
     Inv-loop
     μ-loop
-    newline-requires
+    find-requires
     loop-holds
     sub-line
     part-line-start
     part-line-end
     line-requires
     add-from
-    newline-requires-2
+    find-requires-2
     loop-less
     loop-again
     flush-requires

@@ -16,8 +16,11 @@ abbrev μ-loop : tie.MeasureT-loop
 loop-holds : tie.Need-loop-holds Inv-loop μ-loop
 loop-holds c = search needs
 
-float-at-requires : tie.Need-float-at-requires Inv-loop μ-loop
-float-at-requires c κs = search needs
+float-bits-requires : tie.Need-float-bits-requires Inv-loop μ-loop
+float-bits-requires c κs = search needs
+
+float-of-requires : tie.Need-float-of-requires Inv-loop μ-loop
+float-of-requires c κs = search needs
 
 mul-list : tie.Need-mul-list Inv-loop μ-loop
 mul-list c = search needs
@@ -47,7 +50,8 @@ floats-spec =
     Inv-loop
     μ-loop
     loop-holds
-    float-at-requires
+    float-bits-requires
+    float-of-requires
     mul-list
     slice-write-list
     add-i

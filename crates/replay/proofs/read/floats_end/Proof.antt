@@ -13,8 +13,8 @@ abbrev μ-loop : tie.MeasureT-loop
 loop-holds : tie.Need-loop-holds Inv-loop μ-loop
 loop-holds c = search needs
 
-float-at-requires : tie.Need-float-at-requires Inv-loop μ-loop
-float-at-requires c κs = search needs
+float-bits-requires : tie.Need-float-bits-requires Inv-loop μ-loop
+float-bits-requires c κs = search needs
 
 add-i : tie.Need-add-i Inv-loop μ-loop
 add-i c = search needs
@@ -35,7 +35,7 @@ floats-end-spec =
     Inv-loop
     μ-loop
     loop-holds
-    float-at-requires
+    float-bits-requires
     add-i
     loop-less
     loop-again

@@ -1,6 +1,6 @@
 -- `replay::replies::int` is safe and ends: a u64 holds an i32 that is not below zero. Assumes nothing.
 use borrow.Author.Needs.{needs}
-use Rattle.replay.proofs.Signed.{size-above}
+use Rattle.text.proofs.Signed.{size-above}
 use Rattle.replay.proofs.replies.int.Statement.{statement}
 use Rattle.replay.proofs.replies.int.Tie as tie
 

@@ -1,0 +1,2 @@
+//! What the benchmark and the comparison of files share.
+pub mod reading;
