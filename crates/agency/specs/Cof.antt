@@ -10,7 +10,7 @@ use Rattle.refusals.specs.declared.Refusal.the-variants.{Length, Malformed, Out
 use Rattle.refusals.specs.declared.Verdict.{Verdict}
 use Rattle.refusals.specs.declared.Verdict.the-variants as Verdict
 use Rattle.tables.specs.Degree.{N-COEFF}
-use Rattle.lists.specs.Lists.{listsVerdict, long}
+use Rattle.lists.specs.Lists.{capsVerdict, long}
 use Rattle.text.specs.Decimals.{Read, read, malformed, wholeOf}
 use Rattle.text.specs.Reading.{next-word}
 use Rattle.text.specs.Lines.{lines}
@@ -86,7 +86,7 @@ fileSays ls = after (headerSays ls) (λ y. after (rowsSay N-COEFF 2 first (y .1)
 
 -- 7, of the four lists
 abbrev pub setVerdict : Lists → Verdict
-setVerdict l = listsVerdict (l .g) (l .h) (l .g-dot) (l .h-dot)
+setVerdict l = capsVerdict (l .g) (l .h) (l .g-dot) (l .h-dot)
 
 -- the file, then 7
 unfoldable pub cofSays : List ℕ → Paper CofSet

@@ -50,7 +50,7 @@ fn checked(
     let ReadAnswer::Epoch(year) = answer else {
         return answer;
     };
-    match lists::check_lists(g, h, g_dot, h_dot) {
+    match lists::check_caps(g, h, g_dot, h_dot) {
         Verdict::Accepted => ReadAnswer::Epoch(year),
         Verdict::Refused(k) => ReadAnswer::Refused(k),
     }

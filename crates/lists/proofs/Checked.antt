@@ -21,7 +21,7 @@ use Rattle.refusals.specs.declared.Verdict.{Verdict}
 use Rattle.refusals.specs.declared.Verdict.the-variants as Verdict
 use Rattle.refusals.proofs.Laws.{check-accepted, both-accepted}
 use Rattle.tables.specs.Degree.{N-COEFF}
-use Rattle.lists.specs.Lists.{entriesVerdict, listsVerdict, long, main-cap, rate-cap, withinOf}
+use Rattle.lists.specs.Lists.{capsVerdict, entriesVerdict, listsVerdict, long, main-cap, rate-cap, withinOf}
 
 -- two facts of one result, as what a call ensures and what was found. Over variables, so that the places of the code are written out once
 pub same : {A : Type 0} {r l b : A} → r ≡ l → r ≡ b → l ≡ b
@@ -120,23 +120,25 @@ module _ (g h gd hd : List Float) (e : long g h gd hd ≡ true) where
       let t3 = and-l (a && b) c t2 in
       rw (e, main-pass 0 g (and-l a b t3), main-pass 1 h (and-r a b t3), rate-pass 2 gd (and-r (a && b) c t2), rate-pass 3 hd (and-r (a && b && c) d t1))
 
-  pub bad-g : (k : Refusal) → entriesVerdict main-cap 0 0 g ≡ Verdict.Refused k → Verdict.Refused k ≡ listsVerdict g h gd hd
+  pub caps-decide : (v : Verdict) → v ≡ capsVerdict g h gd hd → v ≡ listsVerdict g h gd hd
   unfolding listsVerdict
-  bad-g k r = rw (e, r)
+  caps-decide v r = r ∙ rw e
+
+-- ---- the search, list by list
+module _ (g h gd hd : List Float) where
+  pub bad-g : (k : Refusal) → entriesVerdict main-cap 0 0 g ≡ Verdict.Refused k → Verdict.Refused k ≡ capsVerdict g h gd hd
+  bad-g k r = rw r
 
   module _ (a0 : entriesVerdict main-cap 0 0 g ≡ Verdict.Accepted) where
-    pub bad-h : (k : Refusal) → entriesVerdict main-cap 1 0 h ≡ Verdict.Refused k → Verdict.Refused k ≡ listsVerdict g h gd hd
-    unfolding listsVerdict
-    bad-h k r = rw (e, a0, r)
+    pub bad-h : (k : Refusal) → entriesVerdict main-cap 1 0 h ≡ Verdict.Refused k → Verdict.Refused k ≡ capsVerdict g h gd hd
+    bad-h k r = rw (a0, r)
 
     module _ (a1 : entriesVerdict main-cap 1 0 h ≡ Verdict.Accepted) where
-      pub bad-gd : (k : Refusal) → entriesVerdict rate-cap 2 0 gd ≡ Verdict.Refused k → Verdict.Refused k ≡ listsVerdict g h gd hd
-      unfolding listsVerdict
-      bad-gd k r = rw (e, a0, a1, r)
+      pub bad-gd : (k : Refusal) → entriesVerdict rate-cap 2 0 gd ≡ Verdict.Refused k → Verdict.Refused k ≡ capsVerdict g h gd hd
+      bad-gd k r = rw (a0, a1, r)
 
-      pub last-list : entriesVerdict rate-cap 2 0 gd ≡ Verdict.Accepted → entriesVerdict rate-cap 3 0 hd ≡ listsVerdict g h gd hd
-      unfolding listsVerdict
-      last-list a2 = rw (e, a0, a1, a2)
+      pub last-list : entriesVerdict rate-cap 2 0 gd ≡ Verdict.Accepted → entriesVerdict rate-cap 3 0 hd ≡ capsVerdict g h gd hd
+      last-list a2 = rw (a0, a1, a2)
 
 -- lists that nothing is refused of
 pub record Listed (g h gd hd : List Float) : Type 0 where

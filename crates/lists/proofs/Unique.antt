@@ -1,6 +1,7 @@
 -- Each public contract leaves one result: the law is over what the kit makes of the function's `ensures`.
 use mathlib.Core.Path.{refl, sym, _∙_}
 use Rattle.refusals.specs.OneResult.{OneResult}
+use Rattle.lists.proofs.check_caps as check-caps-fn
 use Rattle.lists.proofs.check_lists as check-lists-fn
 use Rattle.lists.proofs.lists_long as lists-long-fn
 
@@ -9,3 +10,6 @@ check-lists κs a x y u v p q = (p .0 ∙ sym (q .0), refl)
 
 pub lists-long : OneResult lists-long-fn.Kinds.ps lists-long-fn.Kinds.r lists-long-fn.Reads.Post
 lists-long κs a x y u v p q = (p .0 ∙ sym (q .0), refl)
+
+pub check-caps : OneResult check-caps-fn.Kinds.ps check-caps-fn.Kinds.r check-caps-fn.Reads.Post
+check-caps κs a x y u v p q = (p .0 ∙ sym (q .0), refl)

@@ -28,11 +28,14 @@ entriesVerdict cap k i (x ∷ l) = check (capped cap x) (Coefficient k i) (entri
 abbrev pub long : List Float → List Float → List Float → List Float → Bool
 long g h g-dot h-dot = eqb (length g) N-COEFF && eqb (length h) N-COEFF && eqb (length g-dot) N-COEFF && eqb (length h-dot) N-COEFF
 
--- refusal 6, or 7 in the first list that has it
+-- refusal 7 in the first list that has it
+abbrev pub capsVerdict : List Float → List Float → List Float → List Float → Verdict
+capsVerdict g h g-dot h-dot =
+    both (entriesVerdict main-cap 0 0 g) (both (entriesVerdict main-cap 1 0 h) (both (entriesVerdict rate-cap 2 0 g-dot) (entriesVerdict rate-cap 3 0 h-dot)))
+
+-- refusal 6, then 7
 unfoldable pub listsVerdict : List Float → List Float → List Float → List Float → Verdict
-listsVerdict g h g-dot h-dot =
-    check (long g h g-dot h-dot) Length
-    (both (entriesVerdict main-cap 0 0 g) (both (entriesVerdict main-cap 1 0 h) (both (entriesVerdict rate-cap 2 0 g-dot) (entriesVerdict rate-cap 3 0 h-dot))))
+listsVerdict g h g-dot h-dot = check (long g h g-dot h-dot) Length (capsVerdict g h g-dot h-dot)
 
 -- every entry of the four lists is within its cap, as the code asks it before it searches
 unfoldable pub withinOf : List Float → List Float → List Float → List Float → Bool

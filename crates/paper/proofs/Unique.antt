@@ -8,7 +8,7 @@ pub use Rattle.tables.proofs.Unique.{schmidt-table, k-table}
 pub use Rattle.models.proofs.Unique.{known-epoch, epoch, error-model-by-epoch-year}
 pub use Rattle.geocentric.proofs.Unique.{geodetic-to-geocentric, radius-ratio}
 pub use Rattle.synthesis.proofs.Unique.{sum}
-pub use Rattle.lists.proofs.Unique.{check-lists, lists-long}
+pub use Rattle.lists.proofs.Unique.{check-lists, check-caps, lists-long}
 pub use Rattle.text.proofs.Unique.{is-blank, first-line, first-word, read-decimal, read-number, read-whole}
 pub use Rattle.agency.proofs.Unique.{read}
 pub use Rattle.strengths.proofs.Unique.{h, f, declination-warning, declination-uncertainty, grid-variation}

@@ -33,8 +33,8 @@ returns c =
     let l = lists-of (w .set .last .1 .0) (w .set .last .1 .1 .0) (w .set .last .1 .1 .1 .0) (w .set .last .1 .1 .1 .1 .0) in
     (w .set .ensures .0, subst (λ (r : ReadAnswer). Filled (cofSays s) (said r) l) (sym (c .enum-told .given .1)) (unread s l (c .enum-told .given .0 .0) (told s l _ (w .set .ensures .1) (c .enum-told .given .1))))
 
-check-lists-requires : tie.Need-check-lists-requires
-check-lists-requires c κs = search needs
+check-caps-requires : tie.Need-check-caps-requires
+check-caps-requires c κs = search needs
 
 enum-told-2 : tie.Need-enum-told-2
 enum-told-2 c = search needs
@@ -50,7 +50,7 @@ returns-2 c =
     let s = w .before .before .before .before .before .before .args .text .now in
     let e = toZ-ofZ w32 (t .before .answer .given .0 .0) (record { sfits = t .known-told .given .0 .1 }) in
     let l = lists-of (w .set .last .1 .0) (w .set .last .1 .1 .0) (w .set .last .1 .1 .1 .0) (w .set .last .1 .1 .1 .1 .0) in
-    (w .set .ensures .0, rw e (within-caps s l _ (told s l _ (w .set .ensures .1) (t .before .answer .given .1)) _ (v .check-lists .ensures .0) (c .enum-told2 .given .1)))
+    (w .set .ensures .0, rw e (within-caps s l _ (told s l _ (w .set .ensures .1) (t .before .answer .given .1)) _ (v .check-caps .ensures .0) (c .enum-told2 .given .1)))
 
 returns-3 : tie.Need-returns-3
 returns-3 c =
@@ -59,7 +59,7 @@ returns-3 c =
     let w = t .before .before .before in
     let s = w .before .before .before .before .before .before .args .text .now in
     let l = lists-of (w .set .last .1 .0) (w .set .last .1 .1 .0) (w .set .last .1 .1 .1 .0) (w .set .last .1 .1 .1 .1 .0) in
-    (w .set .ensures .0, over-cap s l _ (told s l _ (w .set .ensures .1) (t .before .answer .given .1)) _ (v .check-lists .ensures .0) (c .before .k .given .0 .0) (c .before .k .given .1))
+    (w .set .ensures .0, over-cap s l _ (told s l _ (w .set .ensures .1) (t .before .answer .given .1)) _ (v .check-caps .ensures .0) (c .before .k .given .0 .0) (c .before .k .given .1))
 
 pub checked-spec : {M : Type 1} → statement M
 checked-spec =
@@ -69,7 +69,7 @@ checked-spec =
     enum-known-answer
     enum-told
     returns
-    check-lists-requires
+    check-caps-requires
     enum-told-2
     enum-known-k
     returns-2

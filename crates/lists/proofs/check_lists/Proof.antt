@@ -2,10 +2,8 @@
 use mathlib.Core.Path.{_≡_, refl, sym, _∙_}
 use mathlib.Core.Bool.{Bool, true, false, not}
 use borrow.Author.Tests.{not-true, not-false}
-use Rattle.lists.proofs.Checked.{same, too-short, lists-pass, bad-g, bad-h, bad-gd, last-list}
+use Rattle.lists.proofs.Checked.{same, too-short, lists-pass, caps-decide}
 use borrow.Author.Needs.{needs}
-use denote.Ref.{now}
-use Rattle.lists.specs.Lists.{entriesVerdict, main-cap}
 use Rattle.lists.proofs.check_lists.Statement.{statement}
 use Rattle.lists.proofs.check_lists.Tie as tie
 
@@ -28,72 +26,13 @@ returns-2 c =
     let o = w .before in
     (lists-pass _ _ _ _ (held (o .before .lists-long .ensures .0) (o .if1 .left)) (same (w .lists-within .ensures) (c .if2 .taken)), (refl, refl, refl, refl))
 
-check-entries-requires : tie.Need-check-entries-requires
-check-entries-requires c κs = search needs
-
-enum-known-k : tie.Need-enum-known-k
-enum-known-k c = search needs
+check-caps-requires : tie.Need-check-caps-requires
+check-caps-requires c κs = search needs
 
 returns-3 : tie.Need-returns-3
 returns-3 c =
-    let f0 = c .before .before .before in
-    let o = f0 .before .before .before in
-    (bad-g _ _ _ _ (held (o .before .lists-long .ensures .0) (o .if1 .left)) _ (same (f0 .check-entries .ensures) (c .before .k .given .1)), (refl, refl, refl, refl))
-
-enum-told : tie.Need-enum-told
-enum-told c = search needs
-
-check-entries-requires-2 : tie.Need-check-entries-requires-2
-check-entries-requires-2 c κs = search needs
-
-enum-known-k-2 : tie.Need-enum-known-k-2
-enum-known-k-2 c = search needs
-
-returns-4 : tie.Need-returns-4
-returns-4 c =
-    let f1 = c .before .before .before in
-    let t0 = f1 .before in
-    let f0 = t0 .before .before in
-    let o = f0 .before .before .before in
-    let h = now (o .before .before .before .before .before .before .args .h) in
-    let e : f1 .check-entries2 .result ≡ entriesVerdict main-cap 1 0 h = f1 .check-entries2 .ensures in
-    (bad-h _ _ _ _ (held (o .before .lists-long .ensures .0) (o .if1 .left)) (same (f0 .check-entries .ensures) (t0 .enum-told .given .1)) _ (same e (c .before .k2 .given .1)), (refl, refl, refl, refl))
-
-enum-told-2 : tie.Need-enum-told-2
-enum-told-2 c = search needs
-
-check-entries-requires-3 : tie.Need-check-entries-requires-3
-check-entries-requires-3 c κs = search needs
-
-enum-known-k-3 : tie.Need-enum-known-k-3
-enum-known-k-3 c = search needs
-
-returns-5 : tie.Need-returns-5
-returns-5 c =
-    let f2 = c .before .before .before in
-    let t1 = f2 .before in
-    let f1 = t1 .before .before in
-    let t0 = f1 .before in
-    let f0 = t0 .before .before in
-    let o = f0 .before .before .before in
-    (bad-gd _ _ _ _ (held (o .before .lists-long .ensures .0) (o .if1 .left)) (same (f0 .check-entries .ensures) (t0 .enum-told .given .1)) (same (f1 .check-entries2 .ensures) (t1 .enum-told2 .given .1)) _ (same (f2 .check-entries3 .ensures) (c .before .k3 .given .1)), (refl, refl, refl, refl))
-
-enum-told-3 : tie.Need-enum-told-3
-enum-told-3 c = search needs
-
-check-entries-requires-4 : tie.Need-check-entries-requires-4
-check-entries-requires-4 c κs = search needs
-
-returns-6 : tie.Need-returns-6
-returns-6 c =
-    let t2 = c .before in
-    let f2 = t2 .before .before in
-    let t1 = f2 .before in
-    let f1 = t1 .before .before in
-    let t0 = f1 .before in
-    let f0 = t0 .before .before in
-    let o = f0 .before .before .before in
-    (c .check-entries4 .ensures ∙ last-list _ _ _ _ (held (o .before .lists-long .ensures .0) (o .if1 .left)) (same (f0 .check-entries .ensures) (t0 .enum-told .given .1)) (same (f1 .check-entries2 .ensures) (t1 .enum-told2 .given .1)) (same (f2 .check-entries3 .ensures) (t2 .enum-told3 .given .1)), (refl, refl, refl, refl))
+    let o = c .before .before .before in
+    (caps-decide _ _ _ _ (held (o .before .lists-long .ensures .0) (o .if1 .left)) _ (c .check-caps .ensures .0), (refl, refl, refl, refl))
 
 pub check-lists-spec : {M : Type 1} → statement M
 check-lists-spec =
@@ -103,17 +42,5 @@ check-lists-spec =
     returns
     lists-within-requires
     returns-2
-    check-entries-requires
-    enum-known-k
-    returns-3
-    enum-told
-    check-entries-requires-2
-    enum-known-k-2
-    returns-4
-    enum-told-2
-    check-entries-requires-3
-    enum-known-k-3
-    returns-5
-    enum-told-3
-    check-entries-requires-4
-    returns-6)
+    check-caps-requires
+    returns-3)
