@@ -123,7 +123,8 @@ fn placed(line: &[u8], p: Place, number: usize) -> PlacedAnswer
     }
 }
 
-// The line that starts at `at`.
+// The coefficient line that starts at `at`, where the place p is due. At the end of the text there is
+// none.
 fn read_row(text: &[u8], at: usize, p: Place, number: usize) -> RowAnswer
     requires { ⌜ at ≤ length (now text) ⌝ }
     ensures { λ r. ⌜ LineTaken (rowSays number p (lines (drop at (now (text .entry))))) (now (text .entry)) at (rowAt r) ⌝ }

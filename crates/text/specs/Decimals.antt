@@ -82,23 +82,26 @@ decimalOf w = plainOf (isMinus w) (unsigned w)
 unfoldable pub nearestOf : Decimal → Float
 nearestOf d = round binary32 (d .minus) (d .digits) (10 ^ (d .places))
 
--- the number that is left where the digits after the point are all 0
+-- the digits after the point are all 0
 abbrev pub isWhole : Decimal → Bool
 isWhole d = eqb (d .digits % 10 ^ (d .places)) 0
 
+-- the number before the point, with its sign; -0 is 0
 abbrev pub wholePart : Decimal → ℤ
 wholePart d = let n = pos (d .digits / 10 ^ (d .places)) in cond (d .minus) (negℤ n) n
 
+-- the whole number that a decimal is
 unfoldable pub wholeIn : Decimal → Read ℤ
 wholeIn d = cond (isWhole d) (read (wholePart d)) malformed
 
+-- a word as an f32, and as a whole number
 unfoldable pub numberOf : List ℕ → Read Float
 numberOf w = and-then (decimalOf w) (λ d. read (nearestOf d))
 
 unfoldable pub wholeOf : List ℕ → Read ℤ
 wholeOf w = and-then (decimalOf w) wholeIn
 
--- ---- what the calls say
+-- ---- what the calls say: each answer, as what was read
 abbrev pub decimalSaid : DecimalAnswer → Read Decimal
 decimalSaid (DecimalAnswer.Decimal d) = read d
 decimalSaid DecimalAnswer.Malformed = malformed

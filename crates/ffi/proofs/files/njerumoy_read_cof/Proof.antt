@@ -47,7 +47,8 @@ returns c =
     let z = y .year .given .0 .0 in
     let e = sym (ap said (y .year .given .1)) ∙ ap (λ (l : Left). l .says) (r .read .ensures .0) in
     let n = toZ-ofZ w32 z (record { sfits = c .known-told .given .0 .1 }) in
-    ((number-answered _ _ e, ap (λ (l : Left). l .lists) (r .read .ensures .0), n ∙ written _ _ e whole _, entry-answered _ _ e _, line-answered _ _ e _), refl)
+    let held = r .before .before .before .before .before .before .before .before .before .before .args .epoch-year .now in
+    ((number-answered _ _ e, ap (λ (l : Left). l .lists) (r .read .ensures .0), n ∙ written _ _ e whole held, entry-answered _ _ e _, line-answered _ _ e _), refl)
 
 same-length-5 : tie.Need-same-length-5
 same-length-5 c = search needs
