@@ -2,15 +2,16 @@
  *
  * Every function returns a refusal number: 0 where it has an answer, else one of the numbers below.
  * A place that is lent for a result is written only where the call has that result; else it keeps
- * what it held. The lists of coefficients are only read, but by njerumoy_read_cof: to that call they
- * are places for results. Nothing is kept between two calls, so calls may run at the same time in
- * several threads. Of other libraries only memcpy and memset are called.
+ * what it held. The lists of coefficients and of error records are only read, but by
+ * njerumoy_read_cof: to that call the coefficients' are places for results. Nothing is kept between
+ * two calls, so calls may run at the same time in several threads. Of other libraries only memcpy and
+ * memset are called.
  *
  * Whatever numbers and bytes come, a call ends and answers as this file says: NaNs, infinities, and
  * lists and texts of any length. What the caller owes is what C cannot say:
  *   - a pointer is not null and is aligned, also for a list or a text of length 0;
- *   - behind a list's pointer stand at least as many floats as its length says, and behind a text's
- *     as many bytes;
+ *   - behind a list's pointer stand at least as many floats or error records as its length says, and
+ *     behind a text's as many bytes;
  *   - the places for results overlap neither each other nor a list or a text that is read.
  *
  * float is IEEE 754 binary32. The processor rounds to nearest, and flushes no subnormal to zero
@@ -66,12 +67,14 @@ enum {
     NJERUMOY_OFFSET = 11,
     /* a number that cannot be used: a component that is not finite or over 2^60 in size, a
      * declination that is not finite or outside -180 to 180, a root of a NaN or of a number below
-     * zero */
+     * zero, a figure of a lent error record that is not finite or is below zero (-0 is not) */
     NJERUMOY_UNUSABLE = 12,
     /* a line of a coefficient file is not what the file has there. `line` is told its number. */
     NJERUMOY_MALFORMED = 13,
     /* a line of a coefficient file is out of order or missing. `line` is told the number. */
-    NJERUMOY_OUT_OF_ORDER = 14
+    NJERUMOY_OUT_OF_ORDER = 14,
+    /* a lent list has no error record of the epoch year */
+    NJERUMOY_NO_ERROR_RECORD = 15
 };
 
 /* A pair (sine, cosine) is off the circle where one of them is not finite, or the sum of their
@@ -114,6 +117,40 @@ enum {
     NJERUMOY_ERROR_Y = 6,
     NJERUMOY_ERROR_Z = 7
 };
+
+/* An error record: the error figures of one epoch year, in the order of `errors`. Lists of it are lent
+ * to the two calls whose names end in _listed, so that a new edition of the figures needs no new
+ * library. The calls without a list have the figures of 2020 and 2025 built in. */
+struct njerumoy_error_record {
+    int32_t epoch_year;
+    float declination_sigma_c, declination_sigma_v, inclination, f, h, x, y, z;
+};
+
+/* The library takes the records to follow each other without gaps. */
+#if defined(__cplusplus) && __cplusplus >= 201103L
+static_assert(sizeof(struct njerumoy_error_record) == 36, "an error record has padding");
+#elif defined(__STDC_VERSION__) && __STDC_VERSION__ >= 201112L
+_Static_assert(sizeof(struct njerumoy_error_record) == 36, "an error record has padding");
+#endif
+
+/* Field, with the error figures from a lent list.
+ *
+ * height .. h_dot   as in njerumoy_field
+ * records       the list, in any order, with its length. The first record of the day's epoch year is
+ *               the one that is used; no other is looked at for refusal 12
+ * xyz           as in njerumoy_field, to the bit
+ * errors        the figures of that record
+ * entry, years  as in njerumoy_field
+ *
+ * Refusals, in this order: 1, 2, 3, 4, 5, 6, 7, 8 as in njerumoy_field; 15; 12, by any of the eight
+ * figures. So a list changes neither the days nor the sets that are served. */
+uint32_t njerumoy_field_listed(float height, float sin_phi, float cos_phi, float sin_lambda,
+                               float cos_lambda, int32_t year, int32_t day_of_year,
+                               int32_t epoch_year, const float *g, size_t g_length, const float *h,
+                               size_t h_length, const float *g_dot, size_t g_dot_length,
+                               const float *h_dot, size_t h_dot_length,
+                               const struct njerumoy_error_record *records, size_t records_length,
+                               float xyz[3], float errors[8], size_t entry[2], int32_t years[2]);
 
 /* Allowance: how far X, Y and Z of njerumoy_field can lie from the exact field of the same question.
  *
@@ -205,6 +242,13 @@ enum {
  * order: 5, 12. */
 uint32_t njerumoy_declination_uncertainty(float x, float y, float z, int32_t epoch_year,
                                           float *uncertainty);
+
+/* The same by the first record of the epoch year in a lent list. Any year may be asked for; no other
+ * record is looked at for refusal 12. Where H is zero the uncertainty is 180, whatever the figures.
+ * Refusals, in this order: 15; 12, by any of the eight figures or the three components. */
+uint32_t njerumoy_declination_uncertainty_listed(float x, float y, float z, int32_t epoch_year,
+                                                 const struct njerumoy_error_record *records,
+                                                 size_t records_length, float *uncertainty);
 
 /* Grid variation, for the charts of the polar regions: declination minus longitude from 55 degrees
  * north on, declination plus longitude from 55 degrees south on, brought to -180 to 180. Elsewhere

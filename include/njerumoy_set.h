@@ -65,6 +65,20 @@ static inline uint32_t njerumoy_field_with(const struct njerumoy_set *set,
                           years);
 }
 
+static inline uint32_t njerumoy_field_listed_with(const struct njerumoy_set *set,
+                                                  struct njerumoy_place place, int32_t year,
+                                                  int32_t day_of_year,
+                                                  const struct njerumoy_error_record *records,
+                                                  size_t records_length, float xyz[3],
+                                                  float errors[8], size_t entry[2],
+                                                  int32_t years[2]) {
+    return njerumoy_field_listed(place.height, place.latitude.sine, place.latitude.cosine,
+                                 place.longitude.sine, place.longitude.cosine, year, day_of_year,
+                                 set->epoch_year, set->g, set->g_length, set->h, set->h_length,
+                                 set->g_dot, set->g_dot_length, set->h_dot, set->h_dot_length,
+                                 records, records_length, xyz, errors, entry, years);
+}
+
 static inline uint32_t njerumoy_allowance_with(const struct njerumoy_set *set,
                                                struct njerumoy_place place, int32_t year,
                                                int32_t day_of_year, float allowances[3],
@@ -90,6 +104,15 @@ static inline uint32_t njerumoy_sum_with(const struct njerumoy_set *set,
 static inline uint32_t njerumoy_declination_uncertainty_with(const struct njerumoy_set *set,
                                                              const float xyz[3], float *uncertainty) {
     return njerumoy_declination_uncertainty(xyz[0], xyz[1], xyz[2], set->epoch_year, uncertainty);
+}
+
+/* By the first record of the set's own epoch year. xyz is what njerumoy_field_listed_with wrote for
+ * the set and the list. */
+static inline uint32_t njerumoy_declination_uncertainty_listed_with(
+    const struct njerumoy_set *set, const float xyz[3], const struct njerumoy_error_record *records,
+    size_t records_length, float *uncertainty) {
+    return njerumoy_declination_uncertainty_listed(xyz[0], xyz[1], xyz[2], set->epoch_year, records,
+                                                   records_length, uncertainty);
 }
 
 #endif

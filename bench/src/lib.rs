@@ -1,2 +1,5 @@
-//! What the benchmark and the comparison of files share.
+//! What the benchmark and the comparisons of files and of lists share.
+pub mod kinds;
+pub mod listed;
 pub mod reading;
+pub mod tally;

@@ -4,13 +4,14 @@
 //!   bench [ROUNDS]
 mod cases;
 
-use bench::reading::{self, Places, LENGTH};
+use bench::listed::{self, List};
+use bench::reading::{self, LENGTH};
 use cases::{sets, Both, Components, FieldCase, Random, SumCase};
 use njerumoy::Field;
-use oracle::entries;
-use oracle::field::{GeomagneticField, WarningZone};
+use oracle::entries::{self, Place};
+use oracle::field::WarningZone;
 use oracle::layout::published_file;
-use oracle::models::WMM_ERROR_MODELS;
+use oracle::models::{WmmErrorModel, WMM_ERROR_MODELS};
 use std::env;
 use std::hint::black_box;
 use std::process::ExitCode;
@@ -28,9 +29,9 @@ fn bits(x: f32, y: f32, z: f32) -> Bits {
     Ok([x.to_bits(), y.to_bits(), z.to_bits()])
 }
 
-/// The oracle's refusals carry no number: any of them counts as 99.
-fn refused<T>(_: T) -> u32 {
-    99
+/// The number of a refusal of the oracle.
+fn refused(refusal: entries::Refusal) -> u32 {
+    refusal.number()
 }
 
 fn our_sum(case: &SumCase, sets: &[Both]) -> Bits {
@@ -106,14 +107,7 @@ fn our_strengths(case: &Components) -> Bits {
 }
 
 fn rust_strengths(case: &Components) -> Bits {
-    let [x, y, z] = *case;
-    let error_model = WMM_ERROR_MODELS[0];
-    let field = GeomagneticField {
-        x,
-        y,
-        z,
-        error_model,
-    };
+    let field = entries::components(*case);
     let zone = match entries::zone(&field).map_err(refused)? {
         None => 0,
         Some(WarningZone::BlackoutZone) => 1,
@@ -136,8 +130,32 @@ fn rust_root(x: &f32) -> Bits {
         .and_then(|r| bits(r, 0.0, 0.0))
 }
 
-/// What a reader of files says, the places after it, or its refusal.
-fn read((number, places): reading::Answer) -> Result<Places, u32> {
+/// The place and the day of a case.
+fn place(case: &FieldCase) -> Place {
+    Place {
+        height: case.height,
+        sin_phi: case.phi.sin,
+        cos_phi: case.phi.cos,
+        sin_lambda: case.lambda.sin,
+        cos_lambda: case.lambda.cos,
+        year: case.day.year,
+        day: case.day.day_of_year,
+    }
+}
+
+/// Error records of so many years, for each set a list in which its year stands last.
+fn error_lists(count: i32) -> [List; 2] {
+    WMM_ERROR_MODELS.map(|last| {
+        let others = (1..count).map(|i| WmmErrorModel {
+            epoch_year: last.epoch_year - 5 * i,
+            ..last
+        });
+        List::of(others.chain([last]).collect(), last.epoch_year)
+    })
+}
+
+/// The places after a call that answered, or its refusal.
+fn answered<P>((number, places): (u32, P)) -> Result<P, u32> {
     match number {
         0 => Ok(places),
         _ => Err(number),
@@ -190,6 +208,25 @@ fn row<T, A: PartialEq>(
     differing == 0
 }
 
+/// The row of Field with lists of `count` error records.
+fn field_listed(
+    name: &str,
+    count: i32,
+    rounds: usize,
+    fields: &[FieldCase],
+    sets: &[Both],
+) -> bool {
+    let lists = error_lists(count);
+    let places: Vec<(Place, usize)> = fields.iter().map(|c| (place(c), c.set)).collect();
+    row(
+        name,
+        rounds,
+        &places,
+        |(place, at)| answered(listed::our_field(place, &sets[*at].rust, &lists[*at])),
+        |(place, at)| answered(listed::rust_field(place, &sets[*at].rust, &lists[*at])),
+    )
+}
+
 fn main() -> ExitCode {
     let rounds = match env::args().nth(1).map(|word| word.parse()) {
         None => ROUNDS,
@@ -233,6 +270,8 @@ fn main() -> ExitCode {
             |c| our_field(c, &sets),
             |c| rust_field(c, &sets),
         ),
+        field_listed("Field, 2 records", 2, rounds, &fields, &sets),
+        field_listed("Field, 20 records", 20, rounds, &fields, &sets),
         row(
             "H, F and zone",
             rounds,
@@ -245,8 +284,8 @@ fn main() -> ExitCode {
             "a file of 93 lines",
             rounds,
             &files,
-            |text| read(reading::ours(text, [LENGTH; 4])),
-            |text| read(reading::rust(text, [LENGTH; 4])),
+            |text| answered(reading::ours(text, [LENGTH; 4])),
+            |text| answered(reading::rust(text, [LENGTH; 4])),
         ),
     ];
     if same.iter().all(|same| *same) {

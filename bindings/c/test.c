@@ -1,68 +1,9 @@
 /* Tests of the library through its C headers: answers, refusals in their order, what they carry, and
  * that a place keeps what it held where the call has no result for it. Each question that takes a set
  * is asked in both forms, with loose lists and with the set in one piece, and all that is told must
- * be the same, bit for bit. tools/test-library runs it, and test_cof.c for the coefficient files. */
-#include <math.h>
-
-#include "check.h"
-
-struct field {
-    float height, sin_phi, cos_phi, sin_lambda, cos_lambda;
-    int32_t year, day, epoch;
-    float lists[4][N];
-    size_t lengths[4];
-    float xyz[3], errors[8], allowances[3];
-    size_t entry[2];
-    int32_t years[2];
-};
-
-/* 80 north, 0 east, sea level, the first day of 2025: an accepted question. */
-static struct field question(void) {
-    struct field q;
-    const float phi = 80.0f * 0.017453292519943295f;
-    q.height = 0.0f;
-    q.sin_phi = sinf(phi);
-    q.cos_phi = cosf(phi);
-    q.sin_lambda = 0.0f;
-    q.cos_lambda = 1.0f;
-    q.year = 2025;
-    q.day = 1;
-    q.epoch = 2025;
-    memcpy(q.lists[0], njerumoy_wmm2025_g, sizeof q.lists[0]);
-    memcpy(q.lists[1], njerumoy_wmm2025_h, sizeof q.lists[1]);
-    memcpy(q.lists[2], njerumoy_wmm2025_g_dot, sizeof q.lists[2]);
-    memcpy(q.lists[3], njerumoy_wmm2025_h_dot, sizeof q.lists[3]);
-    for (int i = 0; i < 4; i++) q.lengths[i] = N;
-    for (int i = 0; i < 3; i++) q.xyz[i] = q.allowances[i] = HELD;
-    for (int i = 0; i < 8; i++) q.errors[i] = HELD;
-    for (int i = 0; i < 2; i++) q.entry[i] = HELD_SIZE;
-    for (int i = 0; i < 2; i++) q.years[i] = HELD_YEAR;
-    return q;
-}
-
-static struct njerumoy_set set_of(const struct field *q) {
-    const struct njerumoy_set set = {
-        q->epoch,      q->lists[0],   q->lists[1],   q->lists[2],   q->lists[3],
-        q->lengths[0], q->lengths[1], q->lengths[2], q->lengths[3],
-    };
-    return set;
-}
-
-static struct njerumoy_place place_of(const struct field *q) {
-    const struct njerumoy_place place = {
-        q->height, {q->sin_phi, q->cos_phi}, {q->sin_lambda, q->cos_lambda}};
-    return place;
-}
-
-/* The same bits in all places that a call is lent, and in the lists. */
-static int same(const struct field *a, const struct field *b) {
-    return memcmp(a->xyz, b->xyz, sizeof a->xyz) == 0 &&
-           memcmp(a->errors, b->errors, sizeof a->errors) == 0 &&
-           memcmp(a->allowances, b->allowances, sizeof a->allowances) == 0 &&
-           memcmp(a->entry, b->entry, sizeof a->entry) == 0 &&
-           memcmp(a->years, b->years, sizeof a->years) == 0 &&
-           memcmp(a->lists, b->lists, sizeof a->lists) == 0;
-}
+ * be the same, bit for bit. tools/test-library runs it. test_cof.c has the coefficient files, and
+ * test_records.c the lent error records. */
+#include "question.h"
 
 static uint32_t ask(struct field *q) {
     struct field b = *q;
@@ -92,25 +33,6 @@ static uint32_t ask_allowance(struct field *q) {
 
 static int near(float x, double printed, double digit) {
     return fabs((double)x - printed) <= digit / 2;
-}
-
-static int kept_results(const struct field *q) {
-    int kept = 1;
-    for (int i = 0; i < 3; i++) kept = kept && q->xyz[i] == HELD && q->allowances[i] == HELD;
-    for (int i = 0; i < 8; i++) kept = kept && q->errors[i] == HELD;
-    return kept;
-}
-
-static int kept_entry(const struct field *q) {
-    return q->entry[0] == HELD_SIZE && q->entry[1] == HELD_SIZE;
-}
-
-static int kept_years(const struct field *q) {
-    return q->years[0] == HELD_YEAR && q->years[1] == HELD_YEAR;
-}
-
-static int kept_all(const struct field *q, uint32_t number) {
-    return kept_results(q) && (number == 7 || kept_entry(q)) && (number == 8 || kept_years(q));
 }
 
 /* Nothing is written but what the refusal carries. Field and Allowance refuse alike. */

@@ -6,9 +6,11 @@
 mod damage;
 pub mod decimals;
 mod files;
+mod listed;
 mod lists;
 mod pairs;
 mod places;
+pub mod records;
 mod rng;
 mod strengths;
 mod values;
@@ -16,6 +18,7 @@ mod values;
 use crate::format::Case;
 use crate::replay::Replay;
 pub use decimals::planned_words;
+pub use listed::TURNS;
 use places::DAYS;
 use rng::{plans, singles, Rng, Walk};
 use std::io::{self, Write};
@@ -35,10 +38,12 @@ pub enum Kind {
     Dec,
     Whole,
     Cof,
+    Flist,
+    Ulist,
 }
 
-/// Every kind, its name on the command line, and its share of a mixed list. A line of COF is long,
-/// so it is rare.
+/// Every kind of a list of all kinds, its name on the command line, and its share of a mixed list. A
+/// line of COF is long, so it is rare.
 pub const KINDS: [(Kind, &str, usize); 10] = [
     (Kind::Sum, "SUM", 60),
     (Kind::Field, "FIELD", 60),
@@ -52,6 +57,11 @@ pub const KINDS: [(Kind, &str, usize); 10] = [
     (Kind::Cof, "COF", 1),
 ];
 
+/// The kinds that come only where they are named: those with lists of error records. So a list of all
+/// kinds from a seed is what it was before there were such lines.
+pub const NAMED_KINDS: [(Kind, &str, usize); 2] =
+    [(Kind::Flist, "FLIST", 60), (Kind::Ulist, "ULIST", 60)];
+
 pub struct Generator {
     rng: Rng,
     pools: Pools,
@@ -61,7 +71,7 @@ pub struct Generator {
     serves: usize,
     special: bool,
     published: Option<usize>,
-    /// The walk over the planned list of each kind, in the order of `Kind`.
+    /// The walk over the planned list of each kind of `KINDS`, in the order of `Kind`.
     walks: [Walk; KINDS.len()],
     /// The planned words of DEC and WHOLE.
     words: Vec<Vec<u8>>,
@@ -81,6 +91,7 @@ pub struct Generator {
     str_ways: [usize; 3],
     /// Latitude, longitude, declination.
     gv_ways: [usize; 3],
+    listed_walks: listed::Walks,
 }
 
 impl Generator {
@@ -138,11 +149,15 @@ impl Generator {
             epoch_ways,
             str_ways,
             gv_ways,
+            listed_walks: listed::Walks::new(seed),
         }
     }
 
     /// Writes one case line of a kind, and before it a SET line where another set's turn has come.
     pub fn line(&mut self, kind: Kind, out: &mut Vec<u8>) {
+        if let Kind::Flist | Kind::Ulist = kind {
+            return self.listed_line(kind, out);
+        }
         let walk = &mut self.walks[kind as usize];
         let planned = self.rng.once_in(if walk.is_through() { 8 } else { 2 });
         let place = if planned { Some(walk.next()) } else { None };
@@ -154,7 +169,7 @@ impl Generator {
             Kind::Gv => self.gv_case(place),
             Kind::Sqrt => self.sqrt_case(place),
             Kind::Bad => return damage::bad_line(self, out),
-            Kind::Dec | Kind::Whole | Kind::Cof => return self.text_line(kind, place, out),
+            _ => return self.text_line(kind, place, out),
         };
         self.replay.case(&case, out);
     }
@@ -197,7 +212,7 @@ pub fn write_cases(
 ) -> io::Result<()> {
     let mut generator = Generator::new(seed);
     let mut choice = Vec::new();
-    for (kind, _, share) in KINDS {
+    for (kind, _, share) in KINDS.into_iter().chain(NAMED_KINDS) {
         if kinds.contains(&kind) {
             choice.extend(vec![kind; share]);
         }

@@ -5,8 +5,8 @@ use crate::field::{
     MIN_LATITUDE_DEG, MIN_LONGITUDE_DEG,
 };
 use crate::models::{
-    date_to_epoch_year, days_in_year, error_model_by_epoch_year, years_since_epoch, WmmModel,
-    BUNDLED_MODELS_VALIDITY_RANGE,
+    date_to_epoch_year, days_in_year, error_model_by_epoch_year, years_since_epoch, WmmErrorModel,
+    WmmModel, BUNDLED_MODELS_VALIDITY_RANGE, WMM_ERROR_MODELS,
 };
 use crate::synthesis::N_COEFF;
 
@@ -41,6 +41,31 @@ pub enum Refusal {
     Malformed { line: usize },
     /// 14: the number of the line that is out of order, or that should have been there.
     OutOfOrder { line: usize },
+    /// 15
+    NoErrorRecord,
+}
+
+impl Refusal {
+    /// Document 01's number.
+    pub fn number(&self) -> u32 {
+        match self {
+            Refusal::Height { .. } => 1,
+            Refusal::Latitude => 2,
+            Refusal::Longitude => 3,
+            Refusal::DayOfYear => 4,
+            Refusal::EpochYear { .. } => 5,
+            Refusal::Length => 6,
+            Refusal::Coefficient { .. } => 7,
+            Refusal::OtherEpoch { .. } => 8,
+            Refusal::Colatitude => 9,
+            Refusal::Ratio => 10,
+            Refusal::Offset => 11,
+            Refusal::Unusable => 12,
+            Refusal::Malformed { .. } => 13,
+            Refusal::OutOfOrder { .. } => 14,
+            Refusal::NoErrorRecord => 15,
+        }
+    }
 }
 
 /// A lent set: an epoch year and four lists of any length, g, h, g_dot, h_dot.
@@ -163,6 +188,34 @@ pub fn field(
     })
 }
 
+/// A place and a day, as Field takes them.
+#[derive(Copy, Clone, Debug, PartialEq)]
+pub struct Place {
+    pub height: f32,
+    pub sin_phi: f32,
+    pub cos_phi: f32,
+    pub sin_lambda: f32,
+    pub cos_lambda: f32,
+    pub year: i32,
+    pub day: i32,
+}
+
+impl Place {
+    /// Field at this place and day.
+    pub fn field(&self, set: &Set) -> Result<GeomagneticField, Refusal> {
+        field(
+            self.height,
+            self.sin_phi,
+            self.cos_phi,
+            self.sin_lambda,
+            self.cos_lambda,
+            self.year,
+            self.day,
+            set,
+        )
+    }
+}
+
 /// Sum: X', Y, Z' in the crate's sign. Refusals 9, 3, 10, 11, 6, 7.
 pub fn sum(
     cos_theta: f32,
@@ -203,6 +256,17 @@ pub fn epoch(year: i32, day: i32) -> Result<(i32, f32), Refusal> {
     Ok((epoch_year, years_since_epoch(year, day, epoch_year)))
 }
 
+/// Loose components as a field, for calls that look at no figure of its error record.
+pub fn components([x, y, z]: [f32; 3]) -> GeomagneticField {
+    let error_model = WMM_ERROR_MODELS[0];
+    GeomagneticField {
+        x,
+        y,
+        z,
+        error_model,
+    }
+}
+
 /// Refusal 12, by any of X, Y and Z.
 fn check_components(field: &GeomagneticField) -> Result<(), Refusal> {
     let usable = |x: f32| within(x, -MAX_COMPONENT, MAX_COMPONENT);
@@ -236,12 +300,20 @@ pub fn zone(field: &GeomagneticField) -> Result<Option<WarningZone>, Refusal> {
 pub fn uncertainty(field: &GeomagneticField, epoch_year: i32) -> Result<f32, Refusal> {
     let error_model =
         *error_model_by_epoch_year(epoch_year).ok_or_else(outside_of_validity_range)?;
+    uncertainty_by(field, error_model)
+}
+
+/// Uncertainty of declination by these figures. Refusal 12, by a component.
+pub fn uncertainty_by(
+    field: &GeomagneticField,
+    error_model: WmmErrorModel,
+) -> Result<f32, Refusal> {
     check_components(field)?;
-    let of_that_year = GeomagneticField {
+    let by_these = GeomagneticField {
         error_model,
         ..*field
     };
-    Ok(of_that_year.declination_uncertainty())
+    Ok(by_these.declination_uncertainty())
 }
 
 /// Grid variation, or `None` where there is none. Refusals 2, 3, 12, before "none".

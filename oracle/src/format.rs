@@ -1,6 +1,7 @@
 //! The case lines: reading and writing. README.md has the whole rule.
 //! A float is the 8 hex digits of its bits. Years, days, epochs and counts are decimal.
-use crate::entries::{Refusal, Set};
+use crate::entries::{Place, Refusal, Set};
+use crate::listed::Listed;
 
 /// The mark between a question and its answer.
 pub const MARK: &[u8] = b" = ";
@@ -13,7 +14,7 @@ pub const MAX_COUNT: usize = 128;
 pub const NEWLINE: u8 = b';';
 
 /// One question.
-#[derive(Copy, Clone, Debug, PartialEq)]
+#[derive(Clone, Debug, PartialEq)]
 pub enum Case<'a> {
     Sum {
         cos_theta: f32,
@@ -23,15 +24,7 @@ pub enum Case<'a> {
         ratio: f32,
         offset: f32,
     },
-    Field {
-        height: f32,
-        sin_phi: f32,
-        cos_phi: f32,
-        sin_lambda: f32,
-        cos_lambda: f32,
-        year: i32,
-        day: i32,
-    },
+    Field(Place),
     Epoch {
         year: i32,
         day: i32,
@@ -59,10 +52,12 @@ pub enum Case<'a> {
     Cof {
         text: &'a [u8],
     },
+    /// FLIST or ULIST.
+    Listed(Listed),
 }
 
 /// The words of a line. Exactly one space stands between two words.
-struct Words<'a> {
+pub struct Words<'a> {
     /// What is left; `None` after the last word.
     rest: Option<&'a [u8]>,
 }
@@ -97,7 +92,7 @@ impl<'a> Words<'a> {
     }
 
     /// Exactly 8 hex digits, small or capital.
-    fn float(&mut self) -> Option<f32> {
+    pub fn float(&mut self) -> Option<f32> {
         let word = self.word()?;
         if word.len() != 8 {
             return None;
@@ -110,7 +105,7 @@ impl<'a> Words<'a> {
     }
 
     /// 1 to 10 digits after an optional '-', in the range of i32.
-    fn int(&mut self) -> Option<i32> {
+    pub fn int(&mut self) -> Option<i32> {
         let word = self.word()?;
         let (minus, digits) = match word.strip_prefix(b"-") {
             Some(digits) => (true, digits),
@@ -120,23 +115,28 @@ impl<'a> Words<'a> {
         i32::try_from(if minus { -size } else { size }).ok()
     }
 
-    /// 1 to 3 digits, 0 to 128.
-    fn count(&mut self) -> Option<usize> {
+    /// 1 to 3 digits, 0 to `most`.
+    pub fn count(&mut self, most: usize) -> Option<usize> {
         let count = decimal(self.word()?, 3)? as usize;
-        if count <= MAX_COUNT {
-            Some(count)
-        } else {
-            None
-        }
+        Some(count).filter(|count| *count <= most)
     }
 
     fn list(&mut self) -> Option<Vec<f32>> {
-        let count = self.count()?;
-        let mut list = Vec::with_capacity(count);
-        for _ in 0..count {
-            list.push(self.float()?);
-        }
-        Some(list)
+        let count = self.count(MAX_COUNT)?;
+        (0..count).map(|_| self.float()).collect()
+    }
+
+    /// The seven words of a place and a day.
+    pub fn place(&mut self) -> Option<Place> {
+        Some(Place {
+            height: self.float()?,
+            sin_phi: self.float()?,
+            cos_phi: self.float()?,
+            sin_lambda: self.float()?,
+            cos_lambda: self.float()?,
+            year: self.int()?,
+            day: self.int()?,
+        })
     }
 
     /// The value, if no word is left.
@@ -172,15 +172,7 @@ pub fn parse_case(question: &[u8]) -> Option<Case<'_>> {
             ratio: words.float()?,
             offset: words.float()?,
         },
-        b"FIELD" => Case::Field {
-            height: words.float()?,
-            sin_phi: words.float()?,
-            cos_phi: words.float()?,
-            sin_lambda: words.float()?,
-            cos_lambda: words.float()?,
-            year: words.int()?,
-            day: words.int()?,
-        },
+        b"FIELD" => Case::Field(words.place()?),
         b"EPOCH" => Case::Epoch {
             year: words.int()?,
             day: words.int()?,
@@ -205,6 +197,8 @@ pub fn parse_case(question: &[u8]) -> Option<Case<'_>> {
         b"COF" => Case::Cof {
             text: words.rest()?,
         },
+        b"FLIST" => Case::Listed(Listed::field(&mut words)?),
+        b"ULIST" => Case::Listed(Listed::uncertainty(&mut words)?),
         _ => return None,
     };
     words.end(case)
@@ -265,19 +259,9 @@ pub fn put_case(out: &mut Vec<u8>, case: &Case) {
             put_floats(out, &[cos_theta, sin_theta, sin_lambda, cos_lambda]);
             put_floats(out, &[ratio, offset]);
         }
-        Case::Field {
-            height,
-            sin_phi,
-            cos_phi,
-            sin_lambda,
-            cos_lambda,
-            year,
-            day,
-        } => {
+        Case::Field(place) => {
             out.extend_from_slice(b"FIELD");
-            put_floats(out, &[height, sin_phi, cos_phi, sin_lambda, cos_lambda]);
-            put_int(out, year);
-            put_int(out, day);
+            put_place(out, &place);
         }
         Case::Epoch { year, day } => {
             out.extend_from_slice(b"EPOCH");
@@ -303,7 +287,16 @@ pub fn put_case(out: &mut Vec<u8>, case: &Case) {
         Case::Dec { word } => put_text(out, b"DEC ", word),
         Case::Whole { word } => put_text(out, b"WHOLE ", word),
         Case::Cof { text } => put_text(out, b"COF ", text),
+        Case::Listed(ref listed) => listed.put(out),
     }
+}
+
+/// Writes the seven words of a place and a day.
+pub fn put_place(out: &mut Vec<u8>, place: &Place) {
+    put_floats(out, &[place.height, place.sin_phi, place.cos_phi]);
+    put_floats(out, &[place.sin_lambda, place.cos_lambda]);
+    put_int(out, place.year);
+    put_int(out, place.day);
 }
 
 fn put_text(out: &mut Vec<u8>, name: &[u8], text: &[u8]) {
@@ -323,23 +316,7 @@ pub fn put_set(out: &mut Vec<u8>, set: &Set) {
 
 /// Writes a refusal: its number, then what it carries.
 pub fn put_refusal(out: &mut Vec<u8>, refusal: &Refusal) {
-    let number: &[u8] = match refusal {
-        Refusal::Height { .. } => b"1",
-        Refusal::Latitude => b"2",
-        Refusal::Longitude => b"3",
-        Refusal::DayOfYear => b"4",
-        Refusal::EpochYear { .. } => b"5",
-        Refusal::Length => b"6",
-        Refusal::Coefficient { .. } => b"7",
-        Refusal::OtherEpoch { .. } => b"8",
-        Refusal::Colatitude => b"9",
-        Refusal::Ratio => b"10",
-        Refusal::Offset => b"11",
-        Refusal::Unusable => b"12",
-        Refusal::Malformed { .. } => b"13",
-        Refusal::OutOfOrder { .. } => b"14",
-    };
-    out.extend_from_slice(number);
+    out.extend_from_slice(refusal.number().to_string().as_bytes());
     match *refusal {
         Refusal::Height { min_km, max_km } => put_floats(out, &[min_km, max_km]),
         Refusal::EpochYear { first, last } => {

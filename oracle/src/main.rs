@@ -1,5 +1,5 @@
 //! The oracle: the Rust side of the comparison. README.md says how it is used.
-use oracle::cases::{write_cases, Kind, KINDS};
+use oracle::cases::{write_cases, Kind, KINDS, NAMED_KINDS};
 use oracle::{published, replay, roots};
 use std::env;
 use std::fs;
@@ -9,7 +9,8 @@ use std::process::ExitCode;
 const USAGE: &str = "\
 oracle answer                        answers the case lines of standard input
 oracle cases SEED COUNT [KIND ...]   writes COUNT case lines with their answers
-                                     (SUM FIELD EPOCH STR GV SQRT BAD DEC WHOLE COF; none named: all)
+                                     (SUM FIELD EPOCH STR GV SQRT BAD DEC WHOLE COF; none named: all
+                                     of these; and FLIST ULIST, where they are named)
 oracle roots                         compares the root on all 2^31 patterns, two threads
 oracle published FILE                compares the published test values
 oracle rows FILE                     writes them as lines for the program replay";
@@ -24,6 +25,7 @@ fn usage() -> ExitCode {
 fn kind_of(name: &str) -> Option<Kind> {
     KINDS
         .iter()
+        .chain(&NAMED_KINDS)
         .find(|(_, known, _)| *known == name)
         .map(|(kind, _, _)| *kind)
 }

@@ -35,6 +35,23 @@ pub struct WmmErrorModel {
 }
 
 impl WmmErrorModel {
+    /// A record of a year, with its figures in the order of `figures`.
+    pub fn of(epoch_year: i32, figures: [f32; 8]) -> WmmErrorModel {
+        let [declination_sigma_c, declination_sigma_v, inclination_uncertainty, f, h, x, y, z] =
+            figures;
+        WmmErrorModel {
+            epoch_year,
+            declination_sigma_c,
+            declination_sigma_v,
+            inclination_uncertainty,
+            f_uncertainty: f,
+            h_uncertainty: h,
+            x_uncertainty: x,
+            y_uncertainty: y,
+            z_uncertainty: z,
+        }
+    }
+
     /// The eight figures, in document 01's order: sigma_c, sigma_v, I, F, H, X, Y, Z.
     pub fn figures(&self) -> [f32; 8] {
         [
@@ -97,11 +114,14 @@ pub fn years_since_epoch(year: i32, day: i32, epoch_year: i32) -> f32 {
     (year - epoch_year) as f32 + (day - 1) as f32 / (days_in_year(year) as f32)
 }
 
-/// The error record of an epoch year, if there is one.
+/// The first record of an epoch year in a list, if there is one.
+pub fn error_model_in(records: &[WmmErrorModel], epoch_year: i32) -> Option<&WmmErrorModel> {
+    records.iter().find(|model| model.epoch_year == epoch_year)
+}
+
+/// The built-in error record of an epoch year, if there is one.
 pub fn error_model_by_epoch_year(epoch_year: i32) -> Option<&'static WmmErrorModel> {
-    WMM_ERROR_MODELS
-        .iter()
-        .find(|model| model.epoch_year == epoch_year)
+    error_model_in(&WMM_ERROR_MODELS, epoch_year)
 }
 
 /// The published set of an epoch year, if there is one.

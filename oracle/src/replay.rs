@@ -2,15 +2,14 @@
 //! the answer after it. A right list of cases comes back as it went in.
 use crate::agency::{number, read_cof, whole};
 use crate::entries::{
-    epoch, field, grid_variation, horizontal, square_root, sum, total, uncertainty, zone, Refusal,
-    Set,
+    components, epoch, grid_variation, horizontal, square_root, sum, total, uncertainty, zone,
+    Refusal, Set,
 };
 use crate::field::{GeomagneticField, WarningZone};
 use crate::format::{
     parse_case, parse_set, put_case, put_float, put_floats, put_hex, put_int, put_refusal, put_set,
     Case, MALFORMED, MARK, NEWLINE,
 };
-use crate::models::WMM_ERROR_MODELS;
 use crate::synthesis::N_COEFF;
 use std::io::{self, BufRead, Write};
 
@@ -155,35 +154,14 @@ fn put_result(out: &mut Vec<u8>, case: &Case, set: &Set) -> Result<(), Refusal> 
             )?;
             put_floats(out, &[x_prime, y, z_prime]);
         }
-        Case::Field {
-            height,
-            sin_phi,
-            cos_phi,
-            sin_lambda,
-            cos_lambda,
-            year,
-            day,
-        } => {
-            let field = field(
-                height, sin_phi, cos_phi, sin_lambda, cos_lambda, year, day, set,
-            )?;
-            put_floats(out, &[field.x, field.y, field.z]);
-            put_floats(out, &field.error_model.figures());
-        }
+        Case::Field(place) => put_field(out, &place.field(set)?),
         Case::Epoch { year, day } => {
             let (epoch_year, offset) = epoch(year, day)?;
             put_int(out, epoch_year);
             put_float(out, offset);
         }
         Case::Str { x, y, z } => {
-            // The record's own figures do not matter: uncertainty takes those of the lent year.
-            let error_model = WMM_ERROR_MODELS[0];
-            let field = GeomagneticField {
-                x,
-                y,
-                z,
-                error_model,
-            };
+            let field = components([x, y, z]);
             put_float(out, horizontal(&field)?);
             put_float(out, total(&field)?);
             put_int(
@@ -209,11 +187,18 @@ fn put_result(out: &mut Vec<u8>, case: &Case, set: &Set) -> Result<(), Refusal> 
             None => out.extend_from_slice(b" N"),
         },
         Case::Sqrt { x } => put_float(out, square_root(x)?),
+        Case::Listed(ref listed) => listed.put_result(out, set)?,
         Case::Dec { .. } | Case::Whole { .. } | Case::Cof { .. } => {
             unreachable!("put_answer answers these by itself")
         }
     }
     Ok(())
+}
+
+/// Writes the eleven floats of a field: X, Y, Z and the error figures.
+pub fn put_field(out: &mut Vec<u8>, field: &GeomagneticField) {
+    put_floats(out, &[field.x, field.y, field.z]);
+    put_floats(out, &field.error_model.figures());
 }
 
 /// Reads a line without its newline. Keeps no more of it than tells that it is too long.

@@ -1,9 +1,11 @@
-//! Tests: the worked examples of document 01, the refusals and their order, the agency's file, the
-//! line format, and the generated cases.
+//! Tests: the worked examples of document 01, the refusals and their order, the agency's file, lists
+//! of error records, the line format, and the generated cases.
 mod agency;
 mod format;
 mod generated;
+mod listed;
 mod paper;
+mod records;
 mod refusals;
 mod words;
 

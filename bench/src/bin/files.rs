@@ -5,61 +5,38 @@
 //!
 //!   files [COUNT]     COUNT random files (300000)
 use bench::reading::{ours, rust, Answer, Places, LENGTH, LONGEST};
+use bench::tally::Tally;
 use oracle::cases::Generator;
 use oracle::layout::{published_file, SPOILING};
-use std::collections::BTreeMap;
 use std::env;
 use std::hint::black_box;
 use std::process::ExitCode;
 use std::time::Instant;
 
-/// How many differences are shown.
-const SHOWN: u64 = 10;
 /// How many random files are compared.
 const RANDOM: usize = 300_000;
 const GOOD: [usize; 4] = [LENGTH; 4];
 
-/// What was compared.
-#[derive(Default)]
-struct Tally {
-    /// Calls by the number of their answer, of the group that runs.
-    numbers: BTreeMap<u32, u64>,
-    all: u64,
-    differences: u64,
+fn compare(tally: &mut Tally, name: &str, text: &[u8]) {
+    compare_with(tally, name, text, GOOD);
 }
 
-impl Tally {
-    fn compare(&mut self, name: &str, text: &[u8]) {
-        self.compare_with(name, text, GOOD);
-    }
-
-    fn compare_with(&mut self, name: &str, text: &[u8], lengths: [usize; 4]) {
-        let (our, their) = (ours(text, lengths), rust(text, lengths));
-        *self.numbers.entry(their.0).or_default() += 1;
-        self.all += 1;
-        if our == their && (our.0 == 0 || left_alone(&our.1)) {
-            return;
-        }
-        self.differences += 1;
-        if self.differences <= SHOWN {
-            println!("{name}:\n  ours {}\n  Rust {}", told(&our), told(&their));
-            if let Some((list, index)) = our.1.first_other(&their.1) {
-                println!("  the lists differ, first at list {list}, index {index}");
+fn compare_with(tally: &mut Tally, name: &str, text: &[u8], lengths: [usize; 4]) {
+    let (our, their) = (ours(text, lengths), rust(text, lengths));
+    let same = our == their && (our.0 == 0 || left_alone(&our.1));
+    tally.count(their.0, same, || {
+        let lists = match our.1.first_other(&their.1) {
+            Some((list, index)) => {
+                format!("\n  the lists differ, first at list {list}, index {index}")
             }
-        }
-    }
-
-    /// Prints the counts of a group, and begins the next.
-    fn group(&mut self, name: &str) {
-        let calls: u64 = self.numbers.values().sum();
-        let parts: Vec<String> = self
-            .numbers
-            .iter()
-            .map(|(n, count)| format!("{n}: {count}"))
-            .collect();
-        println!("{name:<32} {calls:>8} calls ({})", parts.join(", "));
-        self.numbers.clear();
-    }
+            None => String::new(),
+        };
+        format!(
+            "{name}:\n  ours {}\n  Rust {}{lists}",
+            told(&our),
+            told(&their)
+        )
+    });
 }
 
 fn left_alone(places: &Places) -> bool {
@@ -86,14 +63,14 @@ fn bytes(tally: &mut Tally, text: &[u8]) {
     for at in 0..text.len() {
         let mut changed = text.to_vec();
         changed.remove(at);
-        tally.compare(&format!("byte {at} deleted"), &changed);
+        compare(tally, &format!("byte {at} deleted"), &changed);
         changed.insert(at, text[at]);
         changed.insert(at, text[at]);
-        tally.compare(&format!("byte {at} doubled"), &changed);
+        compare(tally, &format!("byte {at} doubled"), &changed);
         changed.remove(at);
         for byte in SPOILING {
             changed[at] = byte;
-            tally.compare(&format!("byte {at} replaced by {byte}"), &changed);
+            compare(tally, &format!("byte {at} replaced by {byte}"), &changed);
         }
     }
 }
@@ -104,14 +81,26 @@ fn lines(tally: &mut Tally, text: &[u8]) {
     for at in 0..lines.len() {
         let mut changed = lines.clone();
         changed.remove(at);
-        tally.compare(&format!("line {} dropped", at + 1), &changed.concat());
+        compare(
+            tally,
+            &format!("line {} dropped", at + 1),
+            &changed.concat(),
+        );
         changed.insert(at, lines[at]);
         changed.insert(at, lines[at]);
-        tally.compare(&format!("line {} doubled", at + 1), &changed.concat());
+        compare(
+            tally,
+            &format!("line {} doubled", at + 1),
+            &changed.concat(),
+        );
         changed.remove(at);
         if at + 1 < lines.len() {
             changed.swap(at, at + 1);
-            tally.compare(&format!("line {} swapped", at + 1), &changed.concat());
+            compare(
+                tally,
+                &format!("line {} swapped", at + 1),
+                &changed.concat(),
+            );
         }
     }
 }
@@ -119,12 +108,13 @@ fn lines(tally: &mut Tally, text: &[u8]) {
 /// Every beginning of the file, from nothing to all of it, and all of it with CR before each LF.
 fn beginnings(tally: &mut Tally, text: &[u8]) {
     for end in 0..=text.len() {
-        tally.compare(&format!("the first {end} bytes"), &text[..end]);
+        compare(tally, &format!("the first {end} bytes"), &text[..end]);
     }
     let lines: Vec<&[u8]> = text.split(|byte| *byte == b'\n').collect();
     let both_ends = lines.join(&b"\r\n"[..]);
     for end in 0..=both_ends.len() {
-        tally.compare(
+        compare(
+            tally,
             &format!("the first {end} bytes, with CR"),
             &both_ends[..end],
         );
@@ -138,7 +128,7 @@ fn lengths(tally: &mut Tally, text: &[u8]) {
             for length in 0..=LONGEST {
                 let mut lengths = GOOD;
                 lengths[list] = length;
-                tally.compare_with(&format!("list {list} of {length}"), file, lengths);
+                compare_with(tally, &format!("list {list} of {length}"), file, lengths);
             }
         }
     }
@@ -174,7 +164,8 @@ fn words(tally: &mut Tally, text: &[u8]) {
                 parts[place] = word.as_bytes();
                 let other = [parts.join(&b' '), b"\n".to_vec()].concat();
                 let changed = [lines[..at].concat(), other, lines[at + 1..].concat()].concat();
-                tally.compare(
+                compare(
+                    tally,
                     &format!("word {place} of line {} is {word}", at + 1),
                     &changed,
                 );
@@ -197,7 +188,11 @@ fn milliseconds(text: &[u8], call: fn(&[u8], [usize; 4]) -> Answer) -> f64 {
 fn random_files(tally: &mut Tally, count: usize) {
     let mut generator = Generator::new(1);
     for number in 0..count {
-        tally.compare(&format!("random file {number}"), &generator.file(None));
+        compare(
+            tally,
+            &format!("random file {number}"),
+            &generator.file(None),
+        );
     }
 }
 
@@ -230,7 +225,7 @@ fn long_files(tally: &mut Tally, text: &[u8]) {
         let made = |size: usize| [before, &unit.repeat(size / unit.len()), after].concat();
         let texts = [5_000_000, 10_000_000].map(made);
         for text in &texts {
-            tally.compare(name, text);
+            compare(tally, name, text);
         }
         let [a, b] = texts.each_ref().map(|text| milliseconds(text, ours));
         let [c, d] = texts.each_ref().map(|text| milliseconds(text, rust));
@@ -268,9 +263,5 @@ fn main() -> ExitCode {
     tally.group("random files");
     long_files(&mut tally, &files[1]);
     tally.group("long files");
-    println!("{} calls, {} differences", tally.all, tally.differences);
-    match tally.differences {
-        0 => ExitCode::SUCCESS,
-        _ => ExitCode::FAILURE,
-    }
+    tally.end()
 }

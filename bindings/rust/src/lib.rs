@@ -7,11 +7,13 @@
 
 mod owned;
 pub mod published;
+mod records;
 mod refusal;
 #[doc(hidden)] // for the comparison in bench/, which lends lists of every length
 pub mod sys;
 
 pub use owned::{OwnedSet, LIST_LENGTH};
+pub use records::{field_listed, ErrorRecord, Errors};
 use refusal::Carried;
 pub use refusal::{List, Refusal};
 
@@ -42,22 +44,8 @@ pub struct Set<'a> {
     pub h_dot: &'a [f32],
 }
 
-/// The error figures of a model: strengths in nT, the inclination in degrees. The declination's
-/// error is the root of the squares of sigma_c and sigma_v / H.
-#[derive(Copy, Clone, Debug, Default, PartialEq)]
-pub struct Errors {
-    pub declination_sigma_c: f32,
-    pub declination_sigma_v: f32,
-    pub inclination: f32,
-    pub f: f32,
-    pub h: f32,
-    pub x: f32,
-    pub y: f32,
-    pub z: f32,
-}
-
-/// The field at a place and a day [nT], with the epoch year and the error figures of the model that
-/// answered.
+/// The field at a place and a day [nT], with the epoch year of the model that answered and its error
+/// figures: those that are built in, or those of a lent list.
 #[derive(Copy, Clone, Debug, PartialEq)]
 pub struct Field {
     /// North.
@@ -153,25 +141,10 @@ pub fn field(
             &mut carried.years,
         )
     };
-    if number != 0 {
-        return Err(Refusal::of(number, carried));
+    match number {
+        0 => Ok(Field::of(set.epoch_year, xyz, errors)),
+        _ => Err(Refusal::of(number, carried)),
     }
-    Ok(Field {
-        x: xyz[0],
-        y: xyz[1],
-        z: xyz[2],
-        epoch_year: set.epoch_year,
-        errors: Errors {
-            declination_sigma_c: errors[0],
-            declination_sigma_v: errors[1],
-            inclination: errors[2],
-            f: errors[3],
-            h: errors[4],
-            x: errors[5],
-            y: errors[6],
-            z: errors[7],
-        },
-    })
 }
 
 /// How far X, Y and Z of `field` can lie from the exact field, for the same question: each number is
@@ -274,6 +247,17 @@ pub fn epoch(day: Day) -> Result<Epoch, Refusal> {
 }
 
 impl Field {
+    #[inline]
+    fn of(epoch_year: i32, [x, y, z]: [f32; 3], errors: [f32; 8]) -> Field {
+        Field {
+            x,
+            y,
+            z,
+            epoch_year,
+            errors: Errors::of(errors),
+        }
+    }
+
     /// The horizontal strength H [nT]. Refusal 12.
     #[inline]
     pub fn h(&self) -> Result<f32, Refusal> {
@@ -303,9 +287,10 @@ impl Field {
         })
     }
 
-    /// The uncertainty of the declination [degrees], by the figures of the field's own epoch year.
-    /// Those of another edition are asked only by writing its year: `Field { epoch_year, ..field }`.
-    /// Refusals 5, 12; a field that `field` gave meets neither.
+    /// The uncertainty of the declination [degrees], by the built-in figures of the field's own epoch
+    /// year; `declination_uncertainty_listed` takes those of a lent list. Those of another edition are
+    /// asked only by writing its year: `Field { epoch_year, ..field }`. Refusals 5, 12; a field that
+    /// `field` gave meets neither.
     #[inline]
     pub fn declination_uncertainty(&self) -> Result<f32, Refusal> {
         let mut uncertainty = 0.0;

@@ -53,6 +53,8 @@ pub enum Refusal {
     Malformed { line: usize },
     /// 14: the line's number, from 1.
     OutOfOrder { line: usize },
+    /// 15
+    NoErrorRecord,
 }
 
 /// The places that a call lends for what a refusal carries. One that it does not lend stays 0.
@@ -105,11 +107,12 @@ impl Refusal {
             11 => Refusal::Offset,
             12 => Refusal::Unusable,
             13 => Refusal::Malformed { line },
-            _ => Refusal::OutOfOrder { line },
+            14 => Refusal::OutOfOrder { line },
+            _ => Refusal::NoErrorRecord,
         }
     }
 
-    /// The number, 1 to 14.
+    /// The number, 1 to 15.
     pub fn number(&self) -> u32 {
         match self {
             Refusal::Height { .. } => 1,
@@ -126,6 +129,7 @@ impl Refusal {
             Refusal::Unusable => 12,
             Refusal::Malformed { .. } => 13,
             Refusal::OutOfOrder { .. } => 14,
+            Refusal::NoErrorRecord => 15,
         }
     }
 }
@@ -162,6 +166,9 @@ impl fmt::Display for Refusal {
             }
             Refusal::OutOfOrder { line } => {
                 write!(f, "line {line} of the coefficient file is out of order or missing")
+            }
+            Refusal::NoErrorRecord => {
+                f.write_str("the lent list has no error record of that epoch year")
             }
         }
     }

@@ -1,5 +1,6 @@
 //! The functions of the library, as include/njerumoy.h declares them. A list is a pointer and a
 //! length; what C declares as an array is a reference to one.
+use crate::ErrorRecord;
 
 extern "C" {
     pub fn njerumoy_field(
@@ -19,6 +20,31 @@ extern "C" {
         g_dot_length: usize,
         h_dot: *const f32,
         h_dot_length: usize,
+        xyz: &mut [f32; 3],
+        errors: &mut [f32; 8],
+        entry: &mut [usize; 2],
+        years: &mut [i32; 2],
+    ) -> u32;
+
+    pub fn njerumoy_field_listed(
+        height: f32,
+        sin_phi: f32,
+        cos_phi: f32,
+        sin_lambda: f32,
+        cos_lambda: f32,
+        year: i32,
+        day_of_year: i32,
+        epoch_year: i32,
+        g: *const f32,
+        g_length: usize,
+        h: *const f32,
+        h_length: usize,
+        g_dot: *const f32,
+        g_dot_length: usize,
+        h_dot: *const f32,
+        h_dot_length: usize,
+        records: *const ErrorRecord,
+        records_length: usize,
         xyz: &mut [f32; 3],
         errors: &mut [f32; 8],
         entry: &mut [usize; 2],
@@ -100,6 +126,16 @@ extern "C" {
         y: f32,
         z: f32,
         epoch_year: i32,
+        uncertainty: &mut f32,
+    ) -> u32;
+
+    pub fn njerumoy_declination_uncertainty_listed(
+        x: f32,
+        y: f32,
+        z: f32,
+        epoch_year: i32,
+        records: *const ErrorRecord,
+        records_length: usize,
         uncertainty: &mut f32,
     ) -> u32;
 

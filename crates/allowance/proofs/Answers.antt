@@ -6,7 +6,8 @@ use Rattle.refusals.specs.Paper.{Paper, answered, paper, after}
 use Rattle.refusals.proofs.Laws.{paper-one, no-answer, answered-one}
 use Rattle.refusals.specs.declared.Refusal.{Refusal}
 use Rattle.models.specs.declared.epochs.EpochOffset.{EpochOffset}
-use Rattle.models.specs.Epochs.{epochSays, epochOffset}
+use Rattle.models.specs.Epochs.{epochYear, epochSays, epochOffset}
+use Rattle.models.specs.Errors.{errorSays}
 use Rattle.geocentric.specs.declared.Geocentric.{Geocentric}
 use Rattle.geocentric.specs.Geo.{geocentricOf, ratioOf, ratioTo}
 use Rattle.synthesis.specs.declared.Xyz.{Xyz}
@@ -39,26 +40,31 @@ module _ (a : Asked) (year day : ℤ) where
   field-refused k h = ap (λ (q : Paper GeomagneticField). after q (λ v. answered (allowancesOf a (epochOffset year day)))) h
 
   module _ (v : GeomagneticField) (h : answered v ≡ fieldSays a year day) where
+    day-is : epochSays year day ≡ answered (epochOffset year day)
+    unfolding fieldSays
+    day-is = day-found (errorSays (epochYear year)) a year day v (sym h)
+
     -- Epoch does not refuse a day that Field answered for
     pub day-known : (k : Refusal) → paper k ≡ epochSays year day → ⊥
-    day-known k e = no-answer k (epochOffset year day) (e ∙ day-found a year day v (sym h))
+    day-known k e = no-answer k (epochOffset year day) (e ∙ day-is)
 
     pub lists-long : Long (a .g) (a .h) (a .g-dot) (a .h-dot)
-    lists-long = let l = found a year day v (sym h) .lists in record { g-long = l .g-long; h-long = l .h-long; gd-long = l .gd-long; hd-long = l .hd-long }
+    unfolding fieldSays
+    lists-long = let l = found (errorSays (epochYear year)) a year day v (sym h) .lists in record { g-long = l .g-long; h-long = l .h-long; gd-long = l .gd-long; hd-long = l .hd-long }
 
     pub allowances-shown : (e : EpochOffset) → answered e ≡ epochSays year day → (r : Allowances) → r ≡ allowancesOf a e → answered r ≡ allowanceSays a year day
     unfolding allowanceSays
     allowances-shown e d r er =
-        let ee : e ≡ epochOffset year day = answered-one e (epochOffset year day) (d ∙ day-found a year day v (sym h)) in
+        let ee : e ≡ epochOffset year day = answered-one e (epochOffset year day) (d ∙ day-is) in
         ap answered (er ∙ ap (allowancesOf a) ee) ∙ ap (λ (q : Paper GeomagneticField). after q (λ v. answered (allowancesOf a (epochOffset year day)))) h
 
 -- an answer covers demand 3's allowance
 pub answer-covers : (a : Asked) (year day : ℤ) (r : AllowanceAnswer) → said r ≡ allowanceSays a year day → (v : Allowances) → r ≡ Answer.Allowance v → Covered a (epochOffset year day) v
-unfolding allowanceSays
+unfolding allowanceSays fieldSays
 answer-covers a year day r h v e =
     let o = epochOffset year day in
     let q = after-answered (fieldSays a year day) (λ u. answered (allowancesOf a o)) v (sym h ∙ ap said e) in
-    let f = found a year day (q .0) (q .1 .0) in
+    let f = found (errorSays (epochYear year)) a year day (q .0) (q .1 .0) in
     subst (λ (u : Allowances). Covered a o u) (answered-one (allowancesOf a o) v (q .1 .1)) (covered a o (f .accepted) (f .lists))
 
 -- any two answers that the contract allows are equal

@@ -1,22 +1,23 @@
 -- What is shown for X, Y and Z of Field is at least the distance itself, between the answer and the exact field.
-use mathlib.Core.Path.{_≡_, sym, ap, _∙_, subst}
+use mathlib.Core.Path.{_≡_, subst}
 use Prim.Native.Nat.{ℕ, _+_, _*_, _≤_}
 use native.Mathlib.Nat.{mul-le-mul-right}
 use native.Mathlib.Omega.{arith}
 use lib.IntN.{ℤ}
 use lib.Ieee.{Float}
-use Rattle.refusals.specs.Paper.{Paper, answered, after}
+use Rattle.refusals.specs.Paper.{Paper, answered}
 use Rattle.refusals.proofs.Laws.{answered-one}
 use Rattle.exact.specs.Exact.{Exact, Size, own}
 use Rattle.exact.specs.Within.{FINE, Within, distance}
 use Rattle.models.specs.declared.epochs.EpochOffset.{EpochOffset}
+use Rattle.models.specs.declared.errors.WmmErrorModel.{WmmErrorModel}
 use Rattle.models.specs.Epochs.{epochOffset}
 use Rattle.sums.specs.Arithmetic.{rounded, unrounded}
 use Rattle.lists.proofs.Checked.{Listed}
 use Rattle.strengths.specs.declared.GeomagneticField.{GeomagneticField}
-use Rattle.field.specs.Field.{FieldAccepted, Asked, field-x, field-y, field-z, fieldSays, recordOf, strengthsOf}
-use Rattle.field.proofs.Laws.{close}
-use Rattle.field.proofs.Answers.{found}
+use Rattle.field.specs.Field.{FieldAccepted, Asked, field-x, field-y, field-z, fieldSays, fieldWith, recordOf, strengthsOf}
+use Rattle.field.proofs.Laws.{close-x, close-y, close-z}
+use Rattle.field.proofs.Answers.{after-answered, found}
 use Rattle.allowance.specs.declared.Allowances.{Allowances}
 use Rattle.bounds.specs.Bounds.{Covers, LEAST, allowed, bounds}
 use Rattle.allowance.specs.Allowance.{allowancesOf, allowanceSays}
@@ -47,13 +48,13 @@ reaches s f x M c w =
 
 module _ (a : Asked) (e : EpochOffset) (w : FieldAccepted a e) (l : Listed (a .g) (a .h) (a .g-dot) (a .h-dot)) where
   pub reaches-x : Reaches (allowed (field-x bounds a e)) (field-x rounded a e) (field-x unrounded a e)
-  reaches-x = reaches (allowed (field-x bounds a e)) (field-x rounded a e) (field-x unrounded a e) _ (covers-x a e w l) (close a e w l .x)
+  reaches-x = reaches (allowed (field-x bounds a e)) (field-x rounded a e) (field-x unrounded a e) _ (covers-x a e w l) (close-x a e w l)
 
   pub reaches-y : Reaches (allowed (field-y bounds a e)) (field-y rounded a e) (field-y unrounded a e)
-  reaches-y = reaches (allowed (field-y bounds a e)) (field-y rounded a e) (field-y unrounded a e) _ (covers-y a e w l) (close a e w l .y)
+  reaches-y = reaches (allowed (field-y bounds a e)) (field-y rounded a e) (field-y unrounded a e) _ (covers-y a e w l) (close-y a e w l)
 
   pub reaches-z : Reaches (allowed (field-z bounds a e)) (field-z rounded a e) (field-z unrounded a e)
-  reaches-z = reaches (allowed (field-z bounds a e)) (field-z rounded a e) (field-z unrounded a e) _ (covers-z a e w l) (close a e w l .z)
+  reaches-z = reaches (allowed (field-z bounds a e)) (field-z rounded a e) (field-z unrounded a e) _ (covers-z a e w l) (close-z a e w l)
 
 -- what Allowance answers with, v, against what Field answers with, u, for one question
 pub record Reached (a : Asked) (e : EpochOffset) (v : Allowances) (u : GeomagneticField) : Type 0 where
@@ -61,11 +62,12 @@ pub record Reached (a : Asked) (e : EpochOffset) (v : Allowances) (u : Geomagnet
   pub y : Reaches (v .y) (u .y) (field-y unrounded a e)
   pub z : Reaches (v .z) (u .z) (field-z unrounded a e)
 
-pub answer-reaches : (a : Asked) (year day : ℤ) (v : Allowances) (u : GeomagneticField) → allowanceSays a year day ≡ answered v → fieldSays a year day ≡ answered u → Reached a (epochOffset year day) v u
+-- with whatever figures Field was asked
+pub answer-reaches : (figures : Paper WmmErrorModel) (a : Asked) (year day : ℤ) (v : Allowances) (u : GeomagneticField) → allowanceSays a year day ≡ answered v → fieldWith figures a year day ≡ answered u → Reached a (epochOffset year day) v u
 unfolding allowanceSays
-answer-reaches a year day v u hv hu =
+answer-reaches figures a year day v u hv hu =
     let e = epochOffset year day in
-    let f = found a year day u hu in
-    let is : allowancesOf a e ≡ v = answered-one (allowancesOf a e) v (sym (ap (λ (q : Paper GeomagneticField). after q (λ w. answered (allowancesOf a e))) hu) ∙ hv) in
-    let r : Reached a e (allowancesOf a e) (recordOf (strengthsOf a e) (e .«epoch_year»)) = record { x = reaches-x a e (f .accepted) (f .lists); y = reaches-y a e (f .accepted) (f .lists); z = reaches-z a e (f .accepted) (f .lists) } in
+    let f = found figures a year day u hu in
+    let is : allowancesOf a e ≡ v = answered-one (allowancesOf a e) v (after-answered (fieldSays a year day) (λ w. answered (allowancesOf a e)) v hv .1 .1) in
+    let r : Reached a e (allowancesOf a e) (recordOf (strengthsOf a e) (f .error)) = record { x = reaches-x a e (f .accepted) (f .lists); y = reaches-y a e (f .accepted) (f .lists); z = reaches-z a e (f .accepted) (f .lists) } in
     subst (λ (w : Allowances). Reached a e w u) is (subst (λ (w : GeomagneticField). Reached a e (allowancesOf a e) w) (f .is) r)

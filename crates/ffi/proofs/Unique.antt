@@ -1,10 +1,13 @@
 -- Every entry's contract leaves one number, and one content of each place that is lent for results: each law is over what the kit makes of the
--- entry's `ensures`.
+-- entry's `ensures`, a `Post`, or `clauses` where the proof is by hand.
 use mathlib.Core.Path.{_≡_, sym, _∙_}
-use Rattle.refusals.specs.OneResult.{OneResult}
+use Rattle.refusals.specs.OneResult.{OneResult, OneAnswer}
+use Rattle.refusals.proofs.Clauses.{both-say-first}
 use Rattle.ffi.proofs.fields.njerumoy_field as field-fn
 use Rattle.ffi.proofs.fields.njerumoy_allowance as allowance-fn
 use Rattle.ffi.proofs.files.njerumoy_read_cof as read-cof-fn
+use Rattle.ffi.proofs.listed.njerumoy_field_listed as field-listed-fn
+use Rattle.ffi.proofs.listed.njerumoy_declination_uncertainty_listed as declination-uncertainty-listed-fn
 use Rattle.ffi.proofs.sums.njerumoy_sum as sum-fn
 use Rattle.ffi.proofs.days.njerumoy_epoch as epoch-fn
 use Rattle.ffi.proofs.records.njerumoy_horizontal as horizontal-fn
@@ -83,3 +86,18 @@ njerumoy-read-cof κs a x y u v p q =
     let entry = same (p .0 .3) (q .0 .3) in
     let line = same (p .0 .4) (q .0 .4) in
     (same (p .0 .0) (q .0 .0), λ i. (tt, (lists i .g, (lists i .h, (lists i .g-dot, (lists i .h-dot, (year i, (entry i, (line i, tt)))))))))
+
+pub njerumoy-field-listed : OneAnswer field-listed-fn.ended (λ M 𝓤. field-listed-fn.clauses 𝓤)
+njerumoy-field-listed M 𝓤 H A mem run κs a g x y u v =
+    both-say-first 𝓤 (λ p q.
+    let xyz = same (p .1) (q .1) in
+    let errors = same (p .2) (q .2) in
+    let entry = same (p .3) (q .3) in
+    let years = same (p .4) (q .4) in
+    (same (p .0) (q .0), λ i. (tt, (tt, (tt, (tt, (tt, (tt, (tt, (tt, (tt, (tt, (tt, (tt, (tt, (xyz i, (errors i, (entry i, (years i, tt)))))))))))))))))))
+
+pub njerumoy-declination-uncertainty-listed : OneAnswer declination-uncertainty-listed-fn.ended (λ M 𝓤. declination-uncertainty-listed-fn.clauses 𝓤)
+njerumoy-declination-uncertainty-listed M 𝓤 H A mem run κs a g x y u v =
+    both-say-first 𝓤 (λ p q.
+    let uncertainty = same (p .1) (q .1) in
+    (same (p .0) (q .0), λ i. (tt, (tt, (tt, (tt, (tt, (uncertainty i, tt))))))))

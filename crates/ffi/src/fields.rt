@@ -1,8 +1,8 @@
 // Field and Allowance.
 use crate::refuse::note_entry;
 use crate::refuse::note_years;
+use crate::tell::tell_field;
 use allowance::AllowanceAnswer;
-use field::FieldAnswer;
 use field::Latitude;
 use refusals::Day;
 use refusals::number;
@@ -45,7 +45,7 @@ pub extern "C" fn njerumoy_field(
         cos: cos_lambda,
     };
     let day = Day { year, day_of_year };
-    match field::field(
+    let answer = field::field(
         height,
         latitude,
         longitude,
@@ -55,28 +55,8 @@ pub extern "C" fn njerumoy_field(
         h,
         g_dot,
         h_dot,
-    ) {
-        FieldAnswer::Field(v) => {
-            *xyz = [v.x, v.y, v.z];
-            let e = v.error;
-            *errors = [
-                e.declination_sigma_c,
-                e.declination_sigma_v,
-                e.inclination,
-                e.f,
-                e.h,
-                e.x,
-                e.y,
-                e.z,
-            ];
-            0
-        }
-        FieldAnswer::Refused(k) => {
-            note_entry(k, entry);
-            note_years(k, years);
-            number(k)
-        }
-    }
+    );
+    tell_field(answer, xyz, errors, entry, years)
 }
 
 #[no_mangle]

@@ -4,6 +4,8 @@
 mod days;
 mod fields;
 mod files;
+mod listed;
 mod records;
 mod refuse;
 mod sums;
+mod tell;

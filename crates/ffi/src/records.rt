@@ -1,10 +1,10 @@
 // The strengths over three components, grid variation, and the square root.
+use crate::tell::tell_strength;
 use models::WmmErrorModel;
 use refusals::number;
 use roots::RootAnswer;
 use strengths::GeomagneticField;
 use strengths::GridAnswer;
-use strengths::StrengthAnswer;
 use strengths::ZoneAnswer;
 ghost use mathlib.Core.Path.{_≡_};
 ghost use Rattle.roots.specs.Answer.{rootSays};
@@ -13,7 +13,7 @@ ghost use Rattle.strengths.specs.Grid.{gridSays};
 ghost use Rattle.ffi.specs.Told.{numberOf, result, itself, zoneNumber, isGiven, variationPlace, bare};
 
 // The record of three components. No strength reads its error figures.
-fn bare_record(x: f32, y: f32, z: f32) -> GeomagneticField
+pub fn bare_record(x: f32, y: f32, z: f32) -> GeomagneticField
     ensures { λ r. ⌜ r ≡ bare x y z ⌝ }
 {
     let error = WmmErrorModel {
@@ -34,13 +34,7 @@ pub extern "C" fn njerumoy_horizontal(x: f32, y: f32, z: f32, h: &mut f32) -> u3
     ensures { λ r. ⌜ (let p = strengthSays (bare x y z) (hOf (bare x y z)) in
         (r ≡ numberOf p) × (now (h .exit) ≡ result itself (now (h .entry)) p)) ⌝ }
 {
-    match bare_record(x, y, z).h() {
-        StrengthAnswer::Strength(s) => {
-            *h = s;
-            0
-        }
-        StrengthAnswer::Refused(k) => number(k),
-    }
+    tell_strength(bare_record(x, y, z).h(), h)
 }
 
 #[no_mangle]
@@ -48,13 +42,7 @@ pub extern "C" fn njerumoy_total(x: f32, y: f32, z: f32, f: &mut f32) -> u32
     ensures { λ r. ⌜ (let p = strengthSays (bare x y z) (fOf (bare x y z)) in
         (r ≡ numberOf p) × (now (f .exit) ≡ result itself (now (f .entry)) p)) ⌝ }
 {
-    match bare_record(x, y, z).f() {
-        StrengthAnswer::Strength(s) => {
-            *f = s;
-            0
-        }
-        StrengthAnswer::Refused(k) => number(k),
-    }
+    tell_strength(bare_record(x, y, z).f(), f)
 }
 
 #[no_mangle]
@@ -90,13 +78,8 @@ pub extern "C" fn njerumoy_declination_uncertainty(
     ensures { λ r. ⌜ (let p = uncertaintySays (bare x y z) «epoch_year» in
         (r ≡ numberOf p) × (now (uncertainty .exit) ≡ result itself (now (uncertainty .entry)) p)) ⌝ }
 {
-    match bare_record(x, y, z).declination_uncertainty(epoch_year) {
-        StrengthAnswer::Strength(s) => {
-            *uncertainty = s;
-            0
-        }
-        StrengthAnswer::Refused(k) => number(k),
-    }
+    let answer = bare_record(x, y, z).declination_uncertainty(epoch_year);
+    tell_strength(answer, uncertainty)
 }
 
 #[no_mangle]

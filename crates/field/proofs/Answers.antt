@@ -3,13 +3,12 @@ use mathlib.Core.Path.{_≡_, refl, sym, ap, _∙_, subst}
 use mathlib.Core.Bool.{Bool, true, false, _||_}
 use Prim.Native.Nat.{ℕ}
 use native.Mathlib.Omega.{arith}
-use borrow.Author.Tests.{eqb-true, eq-eqb}
+use borrow.Author.Tests.{eqb-true}
 use lib.Dec.{eqb}
 use lib.IntN.{ℤ, pos, negsuc}
 use lib.Ieee.{Float, le}
 use mir.Syntax.{w32}
 use mir.Val.{SFits, ofZ, toZ}
-use mir.ValLaws.{toZ-ofZ}
 use Rattle.refusals.specs.Paper.{Paper, answered, refused, paper, unless, after, told}
 use Rattle.refusals.proofs.Laws.{passed, paper-one, no-answer, answered-one, told-answered, told-carry}
 use Rattle.refusals.specs.declared.Verdict.{Verdict}
@@ -18,8 +17,11 @@ use Rattle.refusals.specs.declared.Refusal.{Refusal}
 use Rattle.refusals.specs.declared.Refusal.the-variants.{Latitude, Longitude, DayOfYear, OtherEpoch}
 use Rattle.models.specs.declared.epochs.EpochOffset.{EpochOffset}
 use Rattle.models.specs.declared.errors.WmmErrorModel.{WmmErrorModel}
-use Rattle.models.specs.Epochs.{unknownEpoch, wrongEpoch, dayExists, epochYear, epochSays, epochOffset, knownEpoch}
-use Rattle.models.specs.Errors.{errorModel, errorSays}
+use Rattle.models.specs.Epochs.{unknownEpoch, wrongEpoch, dayExists, epochYear, sameYear, epochSays, epochOffset, knownEpoch}
+use Rattle.models.specs.Records.{listedErrors}
+use Rattle.models.specs.Errors.{builtIn, errors2025, errorSays}
+use Rattle.models.proofs.Years.{same-year, year-same, bits-same}
+use Rattle.models.proofs.BuiltIn.{known-errors}
 use Rattle.geocentric.specs.declared.Geocentric.{Geocentric}
 use Rattle.geocentric.specs.Geo.{beyond-pole, geocentricOf, ratioTo, ratioOf, heightOk}
 use Rattle.synthesis.specs.declared.Xyz.{Xyz}
@@ -28,7 +30,7 @@ use Rattle.synthesis.specs.Sum.{Lent, lent, sumSays, valueOf}
 use Rattle.strengths.specs.declared.GeomagneticField.{GeomagneticField}
 use Rattle.field.specs.declared.FieldAnswer.{FieldAnswer}
 use Rattle.field.specs.declared.FieldAnswer.the-variants as Answer
-use Rattle.field.specs.Field.{said, Asked, FieldAccepted, FieldClose, datedSays, field-x, field-y, field-z, fieldSays, handed, outsideHeight, placeVerdict, recordOf, sameYear, shownSays, strengthsOf}
+use Rattle.field.specs.Field.{said, Asked, FieldAccepted, FieldClose, componentsSays, datedSays, field-x, field-y, field-z, fieldSays, fieldWith, handed, listedField, outsideHeight, placeVerdict, recordOf, recordSays, shownSays, strengthsOf}
 use Rattle.lists.proofs.Checked.{Listed, listed}
 use Rattle.field.proofs.Laws.{accepted-at, close, sum-says}
 use Rattle.exact.specs.Tests.{circle}
@@ -60,38 +62,18 @@ module _ (h s c sl cl : Float) where
         good-place i = rw (e, f, g, i)
 
 -- ---- the set's year against the day's
-same-year : (a b : ℤ) → sameYear a b ≡ true → a ≡ b
-same-year (pos a) (pos b) e = ap pos (eqb-true a b e)
-same-year (pos a) (negsuc b) e = absurd (let z : _≡_ {A = ℕ} 0 1 = cc in omega arith)
-same-year (negsuc a) (pos b) e = absurd (let z : _≡_ {A = ℕ} 0 1 = cc in omega arith)
-same-year (negsuc a) (negsuc b) e = ap negsuc (eqb-true a b e)
-
-year-same : (a : ℤ) → sameYear a a ≡ true
-year-same (pos a) = eq-eqb a a refl
-year-same (negsuc a) = eq-eqb a a refl
-
-bits-same : (a b : ℤ) → SFits w32 a → SFits w32 b → ofZ w32 a ≡ ofZ w32 b → a ≡ b
-bits-same a b f g e = sym (toZ-ofZ w32 a f) ∙ ap (toZ w32) e ∙ toZ-ofZ w32 b g
-
 module _ (a b : ℤ) (v : Xyz) (fa : SFits w32 a) (fb : SFits w32 b) where
   pub other-epoch : (ofZ w32 a ≡ ofZ w32 b → ⊥) → paper (OtherEpoch b a) ≡ shownSays a b v
   unfolding shownSays
   other-epoch n = go (sameYear a b) refl
     where
-      go : (t : Bool) → sameYear a b ≡ t → paper (OtherEpoch b a) ≡ unless (sameYear a b) (paper (OtherEpoch b a)) (answered (recordOf v b))
+      go : (t : Bool) → sameYear a b ≡ t → paper (OtherEpoch b a) ≡ unless (sameYear a b) (paper (OtherEpoch b a)) (answered v)
       go true h = absurd (n (ap (ofZ w32) (same-year a b h)))
       go false h = rw h
 
-  pub with-figures : ofZ w32 a ≡ ofZ w32 b → knownEpoch b ≡ true → (m : WmmErrorModel) → answered m ≡ errorSays b → answered (record { x = v .x; y = v .y; z = v .z; error = m }) ≡ shownSays a b v
-  unfolding shownSays errorSays
-  with-figures h k m f =
-      let i : sameYear a b ≡ true = rw (bits-same a b fa fb h) (year-same b) in
-      let j : m ≡ errorModel b = answered-one m (errorModel b) (f ∙ rw k) in
-      rw (i, j)
-
-pub figures-known : (y : ℤ) (k : Refusal) → knownEpoch y ≡ true → paper k ≡ errorSays y → ⊥
-unfolding errorSays
-figures-known y k e f = no-answer k (errorModel y) (f ∙ rw e)
+  pub own-epoch : ofZ w32 a ≡ ofZ w32 b → answered v ≡ shownSays a b v
+  unfolding shownSays
+  own-epoch h = let i : sameYear a b ≡ true = rw (bits-same a b fa fb h) (year-same b) in rw i
 
 -- a known year is the same after its way through an i32
 pub year-back : (y : ℤ) → knownEpoch y ≡ true → toZ w32 (ofZ w32 y) ≡ y
@@ -131,7 +113,7 @@ module _ (a : Asked) (e : EpochOffset) where
     pub lists-refused : (k : Refusal) → paper k ≡ sumSays asks → paper k ≡ datedSays a e
     lists-refused k h = told-carry of-lists k (valueOf (handed a e)) (shownSays (a .set-epoch) (e .«epoch_year») (strengthsOf a e)) (h ∙ says) ∙ after-set
 
-    pub strengths-shown : (v : Xyz) → answered v ≡ sumSays asks → (u : Xyz) → u ≡ turned v p (a .sin-phi) (a .cos-phi) → (r : Paper GeomagneticField) → r ≡ shownSays (a .set-epoch) (e .«epoch_year») u → r ≡ datedSays a e
+    pub strengths-shown : (v : Xyz) → answered v ≡ sumSays asks → (u : Xyz) → u ≡ turned v p (a .sin-phi) (a .cos-phi) → (r : Paper Xyz) → r ≡ shownSays (a .set-epoch) (e .«epoch_year») u → r ≡ datedSays a e
     unfolding valueOf turned field-x field-y field-z handed geocentricOf
     strengths-shown v h u eu r er =
         let l = told-answered of-lists (answered (valueOf (handed a e))) v (sym (h ∙ says)) in
@@ -140,22 +122,22 @@ module _ (a : Asked) (e : EpochOffset) where
         let shows = shownSays (a .set-epoch) (e .«epoch_year») in
         er ∙ ap shows es ∙ ap (λ (t : Verdict). told t (shows (strengthsOf a e))) (sym (l .0)) ∙ after-set
 
--- ---- Field
+-- ---- the components
 abbrev pub of-place : Asked → Verdict
 of-place a = placeVerdict (a .height) (a .sin-phi) (a .cos-phi) (a .sin-lambda) (a .cos-lambda)
 
 module _ (a : Asked) (year day : ℤ) where
-  pub place-refused : (k : Refusal) → of-place a ≡ Verdict.Refused k → paper k ≡ fieldSays a year day
-  unfolding fieldSays
+  pub place-refused : (k : Refusal) → of-place a ≡ Verdict.Refused k → paper k ≡ componentsSays a year day
+  unfolding componentsSays
   place-refused k e = rw e
 
   module _ (f : of-place a ≡ Verdict.Accepted) where
-    pub day-refused : (k : Refusal) → paper k ≡ epochSays year day → paper k ≡ fieldSays a year day
-    unfolding fieldSays
+    pub day-refused : (k : Refusal) → paper k ≡ epochSays year day → paper k ≡ componentsSays a year day
+    unfolding componentsSays
     day-refused k h = rw f (ap (λ (q : Paper EpochOffset). after q (datedSays a)) h)
 
-    pub day-answered : (e : EpochOffset) → answered e ≡ epochSays year day → (r : Paper GeomagneticField) → r ≡ datedSays a e → r ≡ fieldSays a year day
-    unfolding fieldSays
+    pub day-answered : (e : EpochOffset) → answered e ≡ epochSays year day → (r : Paper Xyz) → r ≡ datedSays a e → r ≡ componentsSays a year day
+    unfolding componentsSays
     day-answered e h r er = rw f (er ∙ ap (λ (q : Paper EpochOffset). after q (datedSays a)) h)
 
 -- ---- what an answer says
@@ -170,42 +152,83 @@ epoch-is year day e h =
     let p2 = passed (knownEpoch (epochYear year)) unknownEpoch _ e (p1 .1) in
     answered-one (epochOffset year day) e (p2 .1)
 
--- what stands behind a record that is shown, for a day of epoch and offset e
-pub record Found (a : Asked) (e : EpochOffset) (v : GeomagneticField) : Type 0 where
+-- what stands behind a record that is shown with these figures, for a day of epoch and offset e
+pub record Found (figures : Paper WmmErrorModel) (a : Asked) (e : EpochOffset) (v : GeomagneticField) : Type 0 where
   pub accepted : FieldAccepted a e
   pub lists : Listed (a .g) (a .h) (a .g-dot) (a .h-dot)
   pub same : sameYear (a .set-epoch) (e .«epoch_year») ≡ true
-  pub is : recordOf (strengthsOf a e) (e .«epoch_year») ≡ v
+  pub error : WmmErrorModel
+  pub figures-are : figures ≡ answered error
+  pub is : recordOf (strengthsOf a e) error ≡ v
 
-pub found : (a : Asked) (year day : ℤ) (v : GeomagneticField) → fieldSays a year day ≡ answered v → Found a (epochOffset year day) v
-unfolding fieldSays datedSays shownSays
-found a year day v h =
-    let p = told-answered (of-place a) _ v h in
-    let q = after-answered (epochSays year day) (datedSays a) v (p .1) in
-    let e = q .0 in
-    let s = passed (knownEpoch (a .set-epoch)) unknownEpoch _ v (q .1 .1) in
-    let l = told-answered (listsVerdict (a .g) (a .h) (a .g-dot) (a .h-dot)) _ v (s .1) in
-    let y = passed (sameYear (a .set-epoch) (e .«epoch_year»)) (OtherEpoch (e .«epoch_year») (a .set-epoch)) _ v (l .1) in
-    subst (λ (x : EpochOffset). Found a x v) (sym (epoch-is year day e (q .1 .0)))
-    (record { accepted = accepted-at a year day (p .0) e (q .1 .0); lists = listed (a .g) (a .h) (a .g-dot) (a .h-dot) (l .0); same = y .0; is = answered-one (recordOf (strengthsOf a e) (e .«epoch_year»)) v (y .1) })
+module _ (figures : Paper WmmErrorModel) (a : Asked) (year day : ℤ) (v : GeomagneticField) (h : fieldWith figures a year day ≡ answered v) where
+  pub found : Found figures a (epochOffset year day) v
+  unfolding fieldWith componentsSays datedSays shownSays
+  found =
+      let c = after-answered (componentsSays a year day) _ v h in
+      let m = after-answered figures _ v (c .1 .1) in
+      let u = c .0 in
+      let p = told-answered (of-place a) _ u (c .1 .0) in
+      let q = after-answered (epochSays year day) (datedSays a) u (p .1) in
+      let e = q .0 in
+      let s = passed (knownEpoch (a .set-epoch)) unknownEpoch _ u (q .1 .1) in
+      let l = told-answered (listsVerdict (a .g) (a .h) (a .g-dot) (a .h-dot)) _ u (s .1) in
+      let y = passed (sameYear (a .set-epoch) (e .«epoch_year»)) (OtherEpoch (e .«epoch_year») (a .set-epoch)) _ u (l .1) in
+      subst (λ (x : EpochOffset). Found figures a x v) (sym (epoch-is year day e (q .1 .0)))
+      (record {
+        accepted = accepted-at a year day (p .0) e (q .1 .0);
+        lists = listed (a .g) (a .h) (a .g-dot) (a .h-dot) (l .0);
+        same = y .0;
+        error = m .0;
+        figures-are = m .1 .0;
+        is = ap (λ (x : Xyz). recordOf x (m .0)) (answered-one (strengthsOf a e) u (y .1)) ∙ answered-one (recordOf u (m .0)) v (m .1 .1);
+      })
 
--- an answer is for a day that Epoch answers for
-pub day-found : (a : Asked) (year day : ℤ) (v : GeomagneticField) → fieldSays a year day ≡ answered v → epochSays year day ≡ answered (epochOffset year day)
+  -- an answer is for a day that Epoch answers for
+  pub day-found : epochSays year day ≡ answered (epochOffset year day)
+  unfolding fieldWith componentsSays
+  day-found =
+      let c = after-answered (componentsSays a year day) _ v h in
+      let p = told-answered (of-place a) _ (c .0) (c .1 .0) in
+      let q = after-answered (epochSays year day) (datedSays a) (c .0) (p .1) in
+      q .1 .0 ∙ ap answered (sym (epoch-is year day (q .0) (q .1 .0)))
+
+-- ---- the figures stand last
+-- two papers of figures that agree wherever a record is shown with them give one answer
+module _ (a : Asked) (year day : ℤ) (p q : Paper WmmErrorModel) where
+  agreed : (c : Paper Xyz) → ((v : Xyz) → c ≡ answered v → p ≡ q) → recordSays c p ≡ recordSays c q
+  agreed (answered v) f = ap (recordSays (answered v)) (f v refl)
+  agreed (refused n x z) f = refl
+
+  -- with any figures at hand the components tell what they were found by
+  figures-last : ((m : WmmErrorModel) (v : GeomagneticField) → Found (answered m) a (epochOffset year day) v → p ≡ q) → fieldWith p a year day ≡ fieldWith q a year day
+  unfolding fieldWith
+  figures-last f = agreed (componentsSays a year day) (λ v h. f errors2025 (recordOf v errors2025) (found (answered errors2025) a year day (recordOf v errors2025) (ap (λ (c : Paper Xyz). recordSays c (answered errors2025)) h)))
+
+-- where figures are used refusal 8 has passed, so those of the set's year are those of the day's epoch
+pub by-8 : (f : ℤ → Paper WmmErrorModel) (a : Asked) (year day : ℤ) → fieldWith (f (a .set-epoch)) a year day ≡ fieldWith (f (epochYear year)) a year day
+by-8 f a year day = figures-last a year day (f (a .set-epoch)) (f (epochYear year)) (λ m v g. ap f (same-year (a .set-epoch) (epochYear year) (g .same)))
+
+-- the call without a list is the call with the built-in list: where figures are used the year is known, so neither 5 nor 15 is
+pub built-in-field : (a : Asked) (year day : ℤ) → fieldSays a year day ≡ listedField builtIn a year day
+unfolding fieldSays listedField
+built-in-field a year day = figures-last a year day (errorSays (epochYear year)) (listedErrors builtIn (epochYear year)) (λ m v g. known-errors (epochYear year) (g .accepted .known))
+
+-- ---- the contract's other clause, and that there is one answer
+-- demand 3: an answer lies close to the exact field, whatever the figures
+pub answer-close : (figures : Paper WmmErrorModel) (a : Asked) (year day : ℤ) (r : FieldAnswer) → said r ≡ fieldWith figures a year day → (v : GeomagneticField) → r ≡ Answer.Field v → FieldClose a (epochOffset year day) v
+answer-close figures a year day r h v e =
+    let f = found figures a year day v (sym h ∙ ap said e) in
+    subst (λ (u : GeomagneticField). FieldClose a (epochOffset year day) u) (f .is) (close a (epochOffset year day) (f .accepted) (f .lists) (f .error))
+
+-- so for the call without a list
+pub field-close : (a : Asked) (year day : ℤ) (r : FieldAnswer) → said r ≡ fieldSays a year day → (v : GeomagneticField) → r ≡ Answer.Field v → FieldClose a (epochOffset year day) v
 unfolding fieldSays
-day-found a year day v h =
-    let p = told-answered (of-place a) _ v h in
-    let q = after-answered (epochSays year day) (datedSays a) v (p .1) in
-    q .1 .0 ∙ ap answered (sym (epoch-is year day (q .0) (q .1 .0)))
+field-close a year day = answer-close (errorSays (epochYear year)) a year day
 
--- demand 3: an answer lies close to the exact field
-pub answer-close : (a : Asked) (year day : ℤ) (r : FieldAnswer) → said r ≡ fieldSays a year day → (v : GeomagneticField) → r ≡ Answer.Field v → FieldClose a (epochOffset year day) v
-answer-close a year day r h v e =
-    let f = found a year day v (sym h ∙ ap said e) in
-    subst (λ (u : GeomagneticField). FieldClose a (epochOffset year day) u) (f .is) (close a (epochOffset year day) (f .accepted) (f .lists))
-
--- any two answers that the contract allows are equal
-pub field-answer-one : (a : Asked) (year day : ℤ) (r s : FieldAnswer) → said r ≡ fieldSays a year day → said s ≡ fieldSays a year day → r ≡ s
-field-answer-one a year day r s e f = go r s (e ∙ sym f)
+-- any two answers that a contract allows are equal
+pub field-answer-one : (p : Paper GeomagneticField) (r s : FieldAnswer) → said r ≡ p → said s ≡ p → r ≡ s
+field-answer-one p r s e f = go r s (e ∙ sym f)
   where
     go : (r s : FieldAnswer) → said r ≡ said s → r ≡ s
     go (Answer.Field v) (Answer.Field w) h = ap Answer.Field (answered-one v w h)

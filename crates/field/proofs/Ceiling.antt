@@ -1,5 +1,6 @@
 -- X, Y and Z of Field stay below the largest size of a component, for every accepted input: the majorants are worked out once, at the largest input, in units of 2 ^ -20 and with rounding upward.
-use mathlib.Core.Path.{_≡_, refl, sym, subst}
+use mathlib.Core.Path.{_≡_, refl, sym, ap, _∙_, subst}
+use mathlib.Core.List.{List}
 use Prim.Native.Nat.{ℕ, zero, suc, _+_, _*_, _/_, _^_, _≤_, _<_}
 use native.Mathlib.Nat.{add-mul, div-add-mod', le-of-mul-le-mul-right, le-trans, mod-lt, mul-le-mul, mul-le-mul-right, not-suc-le-zero, zero-mul, mul-zero, zero-lt-suc}
 use native.Mathlib.Omega.{arith}
@@ -33,14 +34,19 @@ use Rattle.sums.specs.Paths.{POLE-ORDERS, placed, small-sine}
 use Rattle.lists.proofs.Checked.{Listed}
 use Rattle.synthesis.proofs.Demand as Sum
 use Rattle.field.specs.Turn.{cos-turn, sin-turn, turn-x, turn-z}
-use Rattle.field.specs.Field.{FieldAccepted, Asked, field-x, field-y, field-z, fieldSays, handed, recordOf, strengthsOf}
+use Rattle.field.specs.Field.{FieldAccepted, Asked, field-x, field-y, field-z, fieldWith, handed, listedField, recordOf, strengthsOf}
 use Rattle.strengths.specs.declared.GeomagneticField.{GeomagneticField}
 use Rattle.field.proofs.Answers.{found}
-use Rattle.models.specs.Epochs.{epochOffset, knownEpoch}
-use Rattle.models.specs.Errors.{errorModel}
-use Rattle.refusals.specs.Paper.{answered}
+use Rattle.models.specs.declared.errors.WmmErrorModel.{WmmErrorModel}
+use Rattle.models.specs.declared.records.ErrorRecord.{ErrorRecord}
+use Rattle.models.specs.Epochs.{epochOffset, epochYear, knownEpoch}
+use Rattle.models.specs.Records.{listedErrors}
+use Rattle.models.specs.Errors.{errorSays}
+use Rattle.models.proofs.BuiltIn.{known-errors, known-listed}
+use Rattle.refusals.specs.Paper.{Paper, answered}
+use Rattle.strengths.proofs.StrengthLaws.{uncertainty-usable}
 use Rattle.strengths.proofs.Room.{all-three, below-largest, capped-by}
-use Rattle.strengths.specs.Strengths.{hOf, max-component, strengthSays, uncertaintyOf, uncertaintySays, usable, zoneOf, zoneSays}
+use Rattle.strengths.specs.Strengths.{hOf, listedUncertainty, max-component, strengthSays, uncertaintyOf, uncertaintySays, uncertaintyWith, usable, zoneOf, zoneSays}
 use Rattle.field.proofs.TurnNear.{turnedA}
 use Rattle.field.proofs.Laws.{field-x-image, field-x-near, field-y-image, field-y-near, field-z-image, field-z-near, sum-accepted}
 
@@ -286,27 +292,43 @@ module _ (a : Asked) (e : EpochOffset) (w : FieldAccepted a e) (l : Listed (a .g
   field-y-size o = cut-units (field-y sizes a e .num) (15 * 2 ^ 75 + 1) (2 ^ 60) (field-y sizes a e .over) (lit≤ tt) (field-y-under .units o)
 
   -- X, Y and Z can be used
-  pub record-usable : (year : ℤ) → usable (recordOf (strengthsOf a e) year) ≡ true
+  pub record-usable : (m : WmmErrorModel) → usable (recordOf (strengthsOf a e) m) ≡ true
   unfolding usable accA legS angS powS
-  record-usable year =
+  record-usable m =
       let x = small (2 ^ 75) (2 ^ 55) (field-x-near a e w l rounded-keeps) (field-x-image size-hom a e) field-x-under (lit≤ tt) (fine-below (fine-ok turnedA tt) (lit≤ tt) (lit≤ tt) (lit≤ tt)) (at-most _ _ (below-largest .0)) in
       let y = small (15 * 2 ^ 75 + 1) (15 * 2 ^ 55 + 1) (field-y-near a e w l rounded-keeps) (field-y-image size-hom a e) field-y-under (lit≤ tt) (fine-below (fine-ok eastA tt) (lit≤ tt) (lit≤ tt) (lit≤ tt)) (at-most _ _ (below-largest .1)) in
       let z = small (2 ^ 75) (2 ^ 55) (field-z-near a e w l rounded-keeps) (field-z-image size-hom a e) field-z-under (lit≤ tt) (fine-below (fine-ok turnedA tt) (lit≤ tt) (lit≤ tt) (lit≤ tt)) (at-most _ _ (below-largest .0)) in
       all-three (field-x rounded a e) (field-y rounded a e) (field-z rounded a e) x y z
 
--- ---- so no strength of a record that Field gave ends in 12
-pub field-usable : (a : Asked) (year day : ℤ) (v : GeomagneticField) → fieldSays a year day ≡ answered v → usable v ≡ true
-field-usable a year day v h = let f = found a year day v h in subst (λ (u : GeomagneticField). usable u ≡ true) (f .is) (record-usable a (epochOffset year day) (f .accepted) (f .lists) _)
+-- ---- so no strength of a record that Field gave ends in 12, whatever its figures
+module _ (figures : Paper WmmErrorModel) (a : Asked) (year day : ℤ) (v : GeomagneticField) (h : fieldWith figures a year day ≡ answered v) where
+  pub field-usable : usable v ≡ true
+  field-usable = let f = found figures a year day v h in subst (λ (u : GeomagneticField). usable u ≡ true) (f .is) (record-usable a (epochOffset year day) (f .accepted) (f .lists) (f .error))
 
-module _ (a : Asked) (year day : ℤ) (v : GeomagneticField) (h : fieldSays a year day ≡ answered v) where
   pub strength-never-12 : (s : Float) → strengthSays v s ≡ answered s
   unfolding strengthSays
-  strength-never-12 s = rw (field-usable a year day v h) refl
+  strength-never-12 s = rw field-usable refl
 
   pub zone-never-12 : zoneSays v ≡ answered (zoneOf (hOf v))
   unfolding zoneSays
-  zone-never-12 = rw (field-usable a year day v h) refl
+  zone-never-12 = rw field-usable refl
 
-  pub uncertainty-never-12 : (of : ℤ) → knownEpoch of ≡ true → uncertaintySays v of ≡ answered (uncertaintyOf (errorModel of) (hOf v))
+  -- with any figures that are found
+  pub uncertainty-never-12 : (others : Paper WmmErrorModel) (m : WmmErrorModel) → others ≡ answered m → uncertaintyWith others v ≡ answered (uncertaintyOf m (hOf v))
+  uncertainty-never-12 others m k = sym (uncertainty-usable v others m k field-usable)
+
+  -- with the built-in figures of either epoch
+  pub built-in-never-12 : (of : ℤ) → knownEpoch of ≡ true → (s : Float) × (uncertaintySays v of ≡ answered s)
   unfolding uncertaintySays
-  uncertainty-never-12 of k = rw (k, field-usable a year day v h) refl
+  built-in-never-12 of k = let l = known-listed of k in (uncertaintyOf (l .0) (hOf v), uncertainty-never-12 (errorSays of) (l .0) (known-errors of k ∙ l .1))
+
+  -- with the figures by which Field answered
+  pub own-figures : uncertaintyWith figures v ≡ answered (uncertaintyOf (v .error) (hOf v))
+  own-figures =
+      let f = found figures a year day v h in
+      uncertainty-never-12 figures (v .error) (f .figures-are ∙ ap (λ (u : GeomagneticField). answered (u .error)) (f .is))
+
+-- with the list and the epoch year by which Field answered the uncertainty is answered
+pub same-list : (rs : List ErrorRecord) (a : Asked) (year day : ℤ) (v : GeomagneticField) → listedField rs a year day ≡ answered v → listedUncertainty v rs (epochYear year) ≡ answered (uncertaintyOf (v .error) (hOf v))
+unfolding listedField listedUncertainty
+same-list rs a year day v h = own-figures (listedErrors rs (epochYear year)) a year day v h

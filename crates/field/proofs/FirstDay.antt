@@ -11,8 +11,9 @@ use Rattle.exact.specs.Tests.{capped}
 use Rattle.exact.proofs.Near.{finite-is}
 use Rattle.exact.proofs.Ranks.{Leaf}
 use Rattle.roots.specs.Root.{sqrtOf}
-use Rattle.refusals.specs.Paper.{answered}
+use Rattle.refusals.specs.Paper.{Paper, answered}
 use Rattle.models.specs.declared.epochs.EpochOffset.{EpochOffset}
+use Rattle.models.specs.declared.errors.WmmErrorModel.{WmmErrorModel}
 use Rattle.models.specs.Epochs.{epochYear, epochOffset, offsetOf}
 use Rattle.models.specs.Laws.{offset-at-epoch}
 use Rattle.sums.specs.Arithmetic.{rounded}
@@ -24,7 +25,7 @@ use Rattle.sums.proofs.Related.{Alike, path-x-related, path-y-related, path-z-r
 use Rattle.sums.specs.Same.{Same, null, same}
 use Rattle.sums.proofs.SameLaws.{abs-same, add-same, by-same, null-times, same-related, square-same}
 use Rattle.strengths.specs.declared.GeomagneticField.{GeomagneticField}
-use Rattle.field.specs.Field.{Asked, fieldSays, field-x, field-y, field-z, handed}
+use Rattle.field.specs.Field.{Asked, fieldWith, field-x, field-y, field-z, handed}
 use Rattle.strengths.specs.Strengths.{hOf, usable, zoneOf, zoneSays}
 use Rattle.field.proofs.TurnRelated.{turn-x-related, turn-z-related}
 use Rattle.field.proofs.Laws.{sum-accepted}
@@ -57,7 +58,7 @@ unmoved t g r r' e p q = rw e (add-same same (null-times false r r' p q))
 leaf-finite : {B : ℕ} {f : Float} → Leaf B f → T (finite f)
 leaf-finite {f = f} l = finite-is f (l .p) (l .q) (l .d) (l .is)
 
-module _ (a : Asked) (gd hd : List Float) (e : EpochOffset) (z : e .offset ≡ null false) (v w : GeomagneticField) (F : Found a e v) (G : Found (rated a gd hd) e w) where
+module _ (a : Asked) (gd hd : List Float) (e : EpochOffset) (z : e .offset ≡ null false) (f f' : Paper WmmErrorModel) (v w : GeomagneticField) (F : Found f a e v) (G : Found f' (rated a gd hd) e w) where
   -- the second question
   abbrev other : Asked
   other = rated a gd hd
@@ -123,22 +124,21 @@ module _ (v w : GeomagneticField) (x : Same (v .x) (w .x)) (y : Same (v .y) (w .
   unfolding zoneSays usable capped
   zone-says-same z = rw (abs-same x, abs-same y, abs-same z, h-same)
 
--- ---- the first day
-pub first-day : (a b : Asked) → OtherRates a b → (year : ℤ) (v w : GeomagneticField) → epochYear year ≡ year → fieldSays a year (pos 1) ≡ answered v → fieldSays b year (pos 1) ≡ answered w
-    → Same (v .x) (w .x) × Same (v .y) (w .y) × Same (v .z) (w .z) × (zoneOf (hOf v) ≡ zoneOf (hOf w))
-first-day a b r year v w t p q =
-    let gd = b .g-dot in
-    let hd = b .h-dot in
-    let e = epochOffset year (pos 1) in
-    let o : e .offset ≡ null false = ap (λ (n : ℤ). offsetOf year n (pos 1)) t ∙ offset-at-epoch year in
-    let F = found a year (pos 1) v p in
-    let G = found (rated a gd hd) year (pos 1) w (ap (λ (c : Asked). fieldSays c year (pos 1)) (rated-is a b r) ∙ q) in
-    let x = same-x a gd hd e o v w F G in
-    let y = same-y a gd hd e o v w F G in
-    let z = same-z a gd hd e o v w F G in
-    (x, y, z, zone-same v w x y)
+-- ---- the first day, each set with any figures
+module _ (a b : Asked) (r : OtherRates a b) (year : ℤ) (t : epochYear year ≡ year) (f f' : Paper WmmErrorModel) (v w : GeomagneticField) (p : fieldWith f a year (pos 1) ≡ answered v) (q : fieldWith f' b year (pos 1) ≡ answered w) where
+  pub first-day : Same (v .x) (w .x) × Same (v .y) (w .y) × Same (v .z) (w .z) × (zoneOf (hOf v) ≡ zoneOf (hOf w))
+  first-day =
+      let gd = b .g-dot in
+      let hd = b .h-dot in
+      let e = epochOffset year (pos 1) in
+      let o : e .offset ≡ null false = ap (λ (n : ℤ). offsetOf year n (pos 1)) t ∙ offset-at-epoch year in
+      let F = found f a year (pos 1) v p in
+      let G = found f' (rated a gd hd) year (pos 1) w (ap (λ (c : Asked). fieldWith f' c year (pos 1)) (rated-is a b r) ∙ q) in
+      let x = same-x a gd hd e o f f' v w F G in
+      let y = same-y a gd hd e o f f' v w F G in
+      let z = same-z a gd hd e o f f' v w F G in
+      (x, y, z, zone-same v w x y)
 
--- and the entry for the zone answers alike for both fields
-pub first-day-zone : (a b : Asked) → OtherRates a b → (year : ℤ) (v w : GeomagneticField) → epochYear year ≡ year → fieldSays a year (pos 1) ≡ answered v → fieldSays b year (pos 1) ≡ answered w
-    → zoneSays v ≡ zoneSays w
-first-day-zone a b r year v w t p q = let s = first-day a b r year v w t p q in zone-says-same v w (s .0) (s .1) (s .2)
+  -- and the entry for the zone answers alike for both fields
+  pub first-day-zone : zoneSays v ≡ zoneSays w
+  first-day-zone = let s = first-day in zone-says-same v w (s .0) (s .1) (s .2)

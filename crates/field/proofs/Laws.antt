@@ -11,11 +11,13 @@ use Rattle.refusals.specs.declared.Verdict.the-variants as Verdict
 use Rattle.refusals.proofs.Laws.{check-accepted}
 use Rattle.refusals.specs.declared.Refusal.the-variants.{Latitude, Longitude}
 use Rattle.models.specs.declared.epochs.EpochOffset.{EpochOffset}
+use Rattle.models.specs.declared.errors.WmmErrorModel.{WmmErrorModel}
 use Rattle.models.specs.Epochs.{epochSays, knownEpoch}
 use Rattle.models.specs.Dated.{Dated, dated}
 use Rattle.sums.proofs.Distance.{majored}
 use Rattle.field.specs.Field.{FieldAccepted, Asked, FieldClose, field-x, field-y, field-z, handed, outsideHeight, placeVerdict, recordOf, strengthsOf}
 use Rattle.exact.specs.Exact.{Exact}
+use Rattle.exact.specs.Within.{Within}
 use Rattle.exact.proofs.Ranks.{Leaf, Nr}
 use Rattle.exact.proofs.Reach.{within}
 use Rattle.lists.proofs.Checked.{Listed, holds}
@@ -25,7 +27,7 @@ use Rattle.geocentric.specs.Geo.{heightOk, latitudeOk}
 use Rattle.lists.specs.Lists.{listsVerdict}
 use Rattle.synthesis.specs.Sum.{SumAccepted, ratio-ok, sumSays, valueOf}
 use Rattle.sums.specs.Paths.{small-sine}
-use Rattle.sums.specs.Arithmetic.{Arithmetic}
+use Rattle.sums.specs.Arithmetic.{Arithmetic, rounded, sizes, unrounded}
 use Rattle.sums.proofs.Keeps.{Keeps, rounded-keeps}
 use Rattle.sums.proofs.Terms.{angS, legS, powS}
 use Rattle.sums.proofs.Near.{accA, eastA}
@@ -117,15 +119,22 @@ module _ (a : Asked) (e : EpochOffset) (w : FieldAccepted a e) where
       unfolding field-z
       field-z-near = turned-z-near kept (handed a e) sum-accepted (a .cos-phi) (a .sin-phi) lat-c lat-s
 
-    -- demand 3 for Field
-    pub close : FieldClose a e (recordOf (strengthsOf a e) (e .«epoch_year»))
+    -- demand 3 for each of X, Y and Z
+    pub close-x : Within (field-x rounded a e) (field-x unrounded a e) (field-x sizes a e)
     unfolding accA legS angS powS
-    close =
-        record {
-          x = majored (field-x-image size-hom a e) (within (field-x-near rounded-keeps) (lit≤ tt) (lit≤ tt));
-          y = majored (field-y-image size-hom a e) (within (field-y-near rounded-keeps) (lit≤ tt) (lit≤ tt));
-          z = majored (field-z-image size-hom a e) (within (field-z-near rounded-keeps) (lit≤ tt) (lit≤ tt));
-        }
+    close-x = majored (field-x-image size-hom a e) (within (field-x-near rounded-keeps) (lit≤ tt) (lit≤ tt))
+
+    pub close-y : Within (field-y rounded a e) (field-y unrounded a e) (field-y sizes a e)
+    unfolding accA legS angS powS
+    close-y = majored (field-y-image size-hom a e) (within (field-y-near rounded-keeps) (lit≤ tt) (lit≤ tt))
+
+    pub close-z : Within (field-z rounded a e) (field-z unrounded a e) (field-z sizes a e)
+    unfolding accA legS angS powS
+    close-z = majored (field-z-image size-hom a e) (within (field-z-near rounded-keeps) (lit≤ tt) (lit≤ tt))
+
+    -- so for the record, whatever its error figures
+    pub close : (m : WmmErrorModel) → FieldClose a e (recordOf (strengthsOf a e) m)
+    close m = record { x = close-x; y = close-y; z = close-z }
 
 -- ---- what an answer says of what is asked
 known-of : {year day : ℤ} {e : EpochOffset} → Dated year day e → knownEpoch (e .«epoch_year») ≡ true

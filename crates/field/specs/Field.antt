@@ -2,9 +2,9 @@
 -- Definitions only.
 use mathlib.Core.Path.{_≡_}
 use mathlib.Core.List.{List}
-use mathlib.Core.Bool.{Bool, true, false}
-use lib.Dec.{T, eqb}
-use lib.IntN.{ℤ, pos, negsuc}
+use mathlib.Core.Bool.{true}
+use lib.Dec.{T}
+use lib.IntN.{ℤ}
 use lib.Ieee.{Float, binary32, ofBits, neg}
 use Rattle.exact.specs.Tests.{circle}
 use Rattle.exact.specs.Within.{Within}
@@ -14,14 +14,19 @@ use Rattle.refusals.specs.declared.Verdict.the-variants as Verdict
 use Rattle.refusals.specs.declared.Refusal.{Refusal}
 use Rattle.refusals.specs.declared.Refusal.the-variants.{Height, Latitude, Longitude, OtherEpoch}
 use Rattle.models.specs.declared.epochs.EpochOffset.{EpochOffset}
-use Rattle.models.specs.Epochs.{wrongEpoch, knownEpoch, epochSays}
-use Rattle.models.specs.Errors.{errorModel}
+use Rattle.models.specs.declared.errors.WmmErrorModel.{WmmErrorModel}
+use Rattle.models.specs.declared.records.ErrorRecord.{ErrorRecord}
+use Rattle.models.specs.Epochs.{wrongEpoch, knownEpoch, epochYear, sameYear, epochSays}
+use Rattle.models.specs.Records.{listedErrors}
+use Rattle.models.specs.Errors.{errorSays}
 use Rattle.geocentric.specs.Geo.{cosOf, sinOf, ratioOf, heightOk, latitudeOk}
 use Rattle.sums.specs.Arithmetic.{Arithmetic, rounded, sizes, unrounded}
 use Rattle.lists.specs.Lists.{listsVerdict}
 use Rattle.synthesis.specs.Sum.{Lent, offset-ok, sum-x, sum-y, sum-z}
 use Rattle.synthesis.specs.declared.Xyz.{Xyz}
 use Rattle.strengths.specs.declared.GeomagneticField.{GeomagneticField}
+use Rattle.field.specs.declared.ComponentsAnswer.{ComponentsAnswer}
+use Rattle.field.specs.declared.ComponentsAnswer.the-variants as Components
 use Rattle.field.specs.declared.FieldAnswer.{FieldAnswer}
 use Rattle.field.specs.declared.FieldAnswer.the-variants as Answer
 use Rattle.field.specs.Turn.{turn-x, turn-z}
@@ -73,16 +78,9 @@ asked height sp cp sl cl year g h gd hd = record { height = height; sin-phi = sp
 abbrev pub strengthsOf : Asked → EpochOffset → Xyz
 strengthsOf a e = record { x = field-x rounded a e; y = field-y rounded a e; z = field-z rounded a e }
 
--- the record: three strengths, and the error figures of the day's epoch
-abbrev pub recordOf : Xyz → ℤ → GeomagneticField
-recordOf v epoch = record { x = v .x; y = v .y; z = v .z; error = errorModel epoch }
-
--- the two years are the same
-abbrev pub sameYear : ℤ → ℤ → Bool
-sameYear (pos a) (pos b) = eqb a b
-sameYear (pos a) (negsuc b) = false
-sameYear (negsuc a) (pos b) = false
-sameYear (negsuc a) (negsuc b) = eqb a b
+-- the record: three strengths, and error figures
+abbrev pub recordOf : Xyz → WmmErrorModel → GeomagneticField
+recordOf v m = record { x = v .x; y = v .y; z = v .z; error = m }
 
 -- refusal 1, with the two limits of height in kilometres
 abbrev pub outsideHeight : Refusal
@@ -95,21 +93,41 @@ placeVerdict height sin-phi cos-phi sin-lambda cos-lambda =
     (check (latitudeOk sin-phi cos-phi) Latitude
     (check (circle sin-lambda cos-lambda) Longitude Verdict.Accepted))
 
--- refusal 8, which carries both years, or the record
-unfoldable pub shownSays : (set-epoch day-epoch : ℤ) → Xyz → Paper GeomagneticField
-shownSays set-epoch day-epoch v =
-    unless (sameYear set-epoch day-epoch) (paper (OtherEpoch day-epoch set-epoch)) (answered (recordOf v day-epoch))
+-- refusal 8, which carries both years, or the three components
+unfoldable pub shownSays : (set-epoch day-epoch : ℤ) → Xyz → Paper Xyz
+shownSays set-epoch day-epoch v = unless (sameYear set-epoch day-epoch) (paper (OtherEpoch day-epoch set-epoch)) (answered v)
 
--- from the set's year on, for a day of epoch and offset e: refusals 5, 6, 7, 8, then the record
-unfoldable pub datedSays : Asked → EpochOffset → Paper GeomagneticField
+-- from the set's year on, for a day of epoch and offset e: refusals 5, 6, 7, 8, then the components
+unfoldable pub datedSays : Asked → EpochOffset → Paper Xyz
 datedSays a e =
     unless (knownEpoch (a .set-epoch)) wrongEpoch
     (told (listsVerdict (a .g) (a .h) (a .g-dot) (a .h-dot)) (shownSays (a .set-epoch) (e .«epoch_year») (strengthsOf a e)))
 
--- Field, by document 01's order: 1, 2, 3, then 4 and 5 of the day as Epoch gives them, then 5 of the set, 6, 7, 8
-unfoldable pub fieldSays : Asked → (year day : ℤ) → Paper GeomagneticField
-fieldSays a year day =
+-- X, Y and Z, by document 01's order: 1, 2, 3, then 4 and 5 of the day as Epoch gives them, then 5 of the set, 6, 7, 8
+unfoldable pub componentsSays : Asked → (year day : ℤ) → Paper Xyz
+componentsSays a year day =
     told (placeVerdict (a .height) (a .sin-phi) (a .cos-phi) (a .sin-lambda) (a .cos-lambda)) (after (epochSays year day) (datedSays a))
+
+-- what refuses the components, then what refuses the figures, then the record
+abbrev pub recordSays : Paper Xyz → Paper WmmErrorModel → Paper GeomagneticField
+recordSays components figures = after components (λ v. after figures (λ m. answered (recordOf v m)))
+
+-- Field with any figures: refusals 1 to 8, then those of the figures
+unfoldable pub fieldWith : Paper WmmErrorModel → Asked → (year day : ℤ) → Paper GeomagneticField
+fieldWith figures a year day = recordSays (componentsSays a year day) figures
+
+-- Field: the figures are the built-in ones of the day's epoch
+unfoldable pub fieldSays : Asked → (year day : ℤ) → Paper GeomagneticField
+fieldSays a year day = fieldWith (errorSays (epochYear year)) a year day
+
+-- Field with a lent list: after 8 refusal 15 where it has no record of the day's epoch year, 12 where that has unusable figures
+unfoldable pub listedField : List ErrorRecord → Asked → (year day : ℤ) → Paper GeomagneticField
+listedField rs a year day = fieldWith (listedErrors rs (epochYear year)) a year day
+
+-- the paper's number and values of each case of the components' answer
+abbrev pub componentsSaid : ComponentsAnswer → Paper Xyz
+componentsSaid (Components.Components v) = answered v
+componentsSaid (Components.Refused k) = paper k
 
 -- the paper's number and values of each case of the answer
 abbrev pub said : FieldAnswer → Paper GeomagneticField

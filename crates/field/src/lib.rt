@@ -15,12 +15,15 @@ use synthesis::SumAnswer;
 use synthesis::Xyz;
 use turn::turn;
 ghost use mathlib.Core.Path.{_≡_};
-ghost use mathlib.Core.Bool.{true};
-ghost use Rattle.models.specs.Epochs.{knownEpoch, epochOffset};
-ghost use Rattle.field.specs.Field.{asked, FieldAccepted, fieldSays, datedSays, shownSays, said, FieldClose};
+ghost use Rattle.models.specs.Epochs.{epochOffset};
+ghost use Rattle.models.specs.Errors.{errorSaid};
+ghost use Rattle.field.specs.Field.{asked, FieldAccepted, componentsSaid, shownSays, datedSays, componentsSays, recordSays, fieldWith, fieldSays, said, FieldClose};
 
+mod listed;
 mod place;
 mod turn;
+
+pub use listed::field_listed;
 
 // The pair of the geodetic latitude.
 pub struct Latitude {
@@ -33,27 +36,24 @@ pub enum FieldAnswer {
     Refused(Refusal),
 }
 
-// Refusal 8, or the record with the error figures of the day's epoch.
-fn shown(v: Xyz, of_day: i32, of_set: i32) -> FieldAnswer
-    requires { ⌜ knownEpoch «of_day» ≡ true ⌝ }
-    ensures { λ r. ⌜ said r ≡ shownSays «of_set» «of_day» v ⌝ }
+// X, Y and Z before the error figures are looked at.
+enum ComponentsAnswer {
+    Components(Xyz),
+    Refused(Refusal),
+}
+
+// Refusal 8, or the components.
+fn shown(v: Xyz, of_day: i32, of_set: i32) -> ComponentsAnswer
+    ensures { λ r. ⌜ componentsSaid r ≡ shownSays «of_set» «of_day» v ⌝ }
 {
     if of_set != of_day {
-        return FieldAnswer::Refused(Refusal::OtherEpoch { of_day, of_set });
+        return ComponentsAnswer::Refused(Refusal::OtherEpoch { of_day, of_set });
     }
-    match models::error_model_by_epoch_year(of_day) {
-        ErrorModelAnswer::Refused(k) => FieldAnswer::Refused(k),
-        ErrorModelAnswer::Model(m) => FieldAnswer::Field(GeomagneticField {
-            x: v.x,
-            y: v.y,
-            z: v.z,
-            error: m,
-        }),
-    }
+    ComponentsAnswer::Components(v)
 }
 
 // From the set's year on, for an accepted place and day. Sum checks the lists.
-fn field_at(
+fn components_at(
     height: f32,
     latitude: Latitude,
     longitude: Longitude,
@@ -63,12 +63,12 @@ fn field_at(
     h: &[f32],
     g_dot: &[f32],
     h_dot: &[f32],
-) -> FieldAnswer
+) -> ComponentsAnswer
     requires { ⌜ FieldAccepted (asked height (latitude .sin) (latitude .cos) (longitude .sin) (longitude .cos) «epoch_year» (now g) (now h) (now «g_dot») (now «h_dot»)) e ⌝ }
-    ensures { λ r. ⌜ said r ≡ datedSays (asked height (latitude .sin) (latitude .cos) (longitude .sin) (longitude .cos) «epoch_year» (now (g .entry)) (now (h .entry)) (now («g_dot» .entry)) (now («h_dot» .entry))) e ⌝ }
+    ensures { λ r. ⌜ componentsSaid r ≡ datedSays (asked height (latitude .sin) (latitude .cos) (longitude .sin) (longitude .cos) «epoch_year» (now (g .entry)) (now (h .entry)) (now («g_dot» .entry)) (now («h_dot» .entry))) e ⌝ }
 {
     if !models::known_epoch(epoch_year) {
-        return FieldAnswer::Refused(models::UNKNOWN_EPOCH);
+        return ComponentsAnswer::Refused(models::UNKNOWN_EPOCH);
     }
     let p = geodetic_to_geocentric(height, latitude.sin, latitude.cos);
     let colatitude = Colatitude {
@@ -77,13 +77,97 @@ fn field_at(
     };
     let ratio = radius_ratio(p.r);
     match synthesis::sum(colatitude, longitude, ratio, e.offset, g, h, g_dot, h_dot) {
-        SumAnswer::Refused(k) => FieldAnswer::Refused(k),
+        SumAnswer::Refused(k) => ComponentsAnswer::Refused(k),
         SumAnswer::Sum(v) => shown(turn(v, p, latitude), e.epoch_year, epoch_year),
     }
 }
 
+// Refusals 1 to 8 in their order, then X, Y and Z.
+fn components(
+    height: f32,
+    latitude: Latitude,
+    longitude: Longitude,
+    day: Day,
+    epoch_year: i32,
+    g: &[f32],
+    h: &[f32],
+    g_dot: &[f32],
+    h_dot: &[f32],
+) -> ComponentsAnswer
+    ensures { λ r. ⌜ componentsSaid r ≡ componentsSays (asked height (latitude .sin) (latitude .cos) (longitude .sin) (longitude .cos) «epoch_year» (now (g .entry)) (now (h .entry)) (now («g_dot» .entry)) (now («h_dot» .entry))) (day .year) (day .«day_of_year») ⌝ }
+{
+    if let Verdict::Refused(k) = check_place(height, latitude, longitude) {
+        return ComponentsAnswer::Refused(k);
+    }
+    match models::epoch(day.year, day.day_of_year) {
+        EpochAnswer::Refused(k) => ComponentsAnswer::Refused(k),
+        EpochAnswer::Epoch(e) => components_at(
+            height,
+            latitude,
+            longitude,
+            e,
+            epoch_year,
+            g,
+            h,
+            g_dot,
+            h_dot,
+        ),
+    }
+}
+
+// The record: what refuses the components stands before what refuses the figures.
+fn with_figures(c: ComponentsAnswer, figures: ErrorModelAnswer) -> FieldAnswer
+    ensures { λ r. ⌜ said r ≡ recordSays (componentsSaid c) (errorSaid figures) ⌝ }
+{
+    match c {
+        ComponentsAnswer::Refused(k) => FieldAnswer::Refused(k),
+        ComponentsAnswer::Components(v) => match figures {
+            ErrorModelAnswer::Refused(k) => FieldAnswer::Refused(k),
+            ErrorModelAnswer::Model(m) => FieldAnswer::Field(GeomagneticField {
+                x: v.x,
+                y: v.y,
+                z: v.z,
+                error: m,
+            }),
+        },
+    }
+}
+
+// Field with figures from anywhere, already looked up: the built-in ones, or those of a lent list.
+pub fn field_with(
+    height: f32,
+    latitude: Latitude,
+    longitude: Longitude,
+    day: Day,
+    epoch_year: i32,
+    g: &[f32],
+    h: &[f32],
+    g_dot: &[f32],
+    h_dot: &[f32],
+    figures: ErrorModelAnswer,
+) -> FieldAnswer
+    ensures answer { λ r. ⌜ said r ≡ fieldWith (errorSaid figures) (asked height (latitude .sin) (latitude .cos) (longitude .sin) (longitude .cos) «epoch_year» (now (g .entry)) (now (h .entry)) (now («g_dot» .entry)) (now («h_dot» .entry))) (day .year) (day .«day_of_year») ⌝ }
+    ensures kept { λ _. ⌜ (now (g .exit) ≡ now (g .entry)) × (now (h .exit) ≡ now (h .entry)) × (now («g_dot» .exit) ≡ now («g_dot» .entry)) × (now («h_dot» .exit) ≡ now («h_dot» .entry)) ⌝ }
+{
+    with_figures(
+        components(
+            height,
+            latitude,
+            longitude,
+            day,
+            epoch_year,
+            g,
+            h,
+            g_dot,
+            h_dot,
+        ),
+        figures,
+    )
+}
+
 // Refusals 1 to 8 in their order, then the answer. `answer` is demands 1 and 2, `distance` demand 3;
-// the lent slices keep what they hold.
+// the lent slices keep what they hold. The figures are looked up by the set's year: where they are
+// used, refusal 8 has found it to be the day's.
 pub fn field(
     height: f32,
     latitude: Latitude,
@@ -99,21 +183,16 @@ pub fn field(
     ensures distance { λ r. ⌜ ((v : GeomagneticField) → r ≡ FieldAnswer.Field v → FieldClose (asked height (latitude .sin) (latitude .cos) (longitude .sin) (longitude .cos) «epoch_year» (now (g .entry)) (now (h .entry)) (now («g_dot» .entry)) (now («h_dot» .entry))) (epochOffset (day .year) (day .«day_of_year»)) v) ⌝ }
     ensures kept { λ _. ⌜ (now (g .exit) ≡ now (g .entry)) × (now (h .exit) ≡ now (h .entry)) × (now («g_dot» .exit) ≡ now («g_dot» .entry)) × (now («h_dot» .exit) ≡ now («h_dot» .entry)) ⌝ }
 {
-    if let Verdict::Refused(k) = check_place(height, latitude, longitude) {
-        return FieldAnswer::Refused(k);
-    }
-    match models::epoch(day.year, day.day_of_year) {
-        EpochAnswer::Refused(k) => FieldAnswer::Refused(k),
-        EpochAnswer::Epoch(e) => field_at(
-            height,
-            latitude,
-            longitude,
-            e,
-            epoch_year,
-            g,
-            h,
-            g_dot,
-            h_dot,
-        ),
-    }
+    field_with(
+        height,
+        latitude,
+        longitude,
+        day,
+        epoch_year,
+        g,
+        h,
+        g_dot,
+        h_dot,
+        models::error_model_by_epoch_year(epoch_year),
+    )
 }

@@ -36,10 +36,16 @@ EPOCH-YEARS = 5
 unfoldable pub epochYear : ℤ → ℤ
 epochYear year = quotZ year (pos EPOCH-YEARS) *ℤ pos EPOCH-YEARS
 
+-- the two years are the same
+abbrev pub sameYear : ℤ → ℤ → Bool
+sameYear (pos a) (pos b) = eqb a b
+sameYear (pos a) (negsuc b) = false
+sameYear (negsuc a) (pos b) = false
+sameYear (negsuc a) (negsuc b) = eqb a b
+
 -- the year is n
 abbrev pub isYear : ℕ → ℤ → Bool
-isYear n (pos y) = eqb y n
-isYear n (negsuc y) = false
+isYear n y = sameYear y (pos n)
 
 -- 2020 or 2025
 unfoldable pub knownEpoch : ℤ → Bool

@@ -1,12 +1,14 @@
 -- The error figures. Document 01's table. Definitions only.
-use mathlib.Core.Bool.{cond}
-use lib.IntN.{ℤ}
+use mathlib.Core.List.{List, [], _∷_}
+use lib.IntN.{ℤ, pos}
 use lib.Ieee.{binary32, ofBits}
 use Rattle.refusals.specs.Paper.{Paper, answered, paper, unless}
 use Rattle.models.specs.declared.errors.WmmErrorModel.{WmmErrorModel}
 use Rattle.models.specs.declared.errors.ErrorModelAnswer.{ErrorModelAnswer}
 use Rattle.models.specs.declared.errors.ErrorModelAnswer.the-variants.{Model, Refused}
-use Rattle.models.specs.Epochs.{isYear, knownEpoch, wrongEpoch}
+use Rattle.models.specs.declared.records.ErrorRecord.{ErrorRecord}
+use Rattle.models.specs.Epochs.{knownEpoch, wrongEpoch}
+use Rattle.models.specs.Records.{listedErrors}
 
 -- 0.26, 5625, 0.21, 145, 128, 131, 94, 157
 abbrev pub errors2020 : WmmErrorModel
@@ -36,15 +38,15 @@ errors2025 =
       z = ofBits binary32 0x430d0000;
     }
 
--- the figures of a known epoch year
-unfoldable pub errorModel : ℤ → WmmErrorModel
-errorModel e = cond (isYear 2020 e) errors2020 errors2025
+-- the two built-in records
+abbrev pub builtIn : List ErrorRecord
+builtIn = record { «epoch_year» = pos 2020; figures = errors2020 } ∷ record { «epoch_year» = pos 2025; figures = errors2025 } ∷ []
 
 -- what an answer says
 abbrev pub errorSaid : ErrorModelAnswer → Paper WmmErrorModel
 errorSaid (Model m) = answered m
 errorSaid (Refused k) = paper k
 
--- refusal 5, then the answer
+-- refusal 5, then what the built-in list gives
 unfoldable pub errorSays : ℤ → Paper WmmErrorModel
-errorSays e = unless (knownEpoch e) wrongEpoch (answered (errorModel e))
+errorSays e = unless (knownEpoch e) wrongEpoch (listedErrors builtIn e)

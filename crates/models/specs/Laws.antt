@@ -1,20 +1,18 @@
--- Each contract leaves one result; what an accepted day has; the offset at the epoch.
+-- Each contract leaves one result; the offset at the epoch.
 use mathlib.Core.Path.{_≡_, refl, sym, ap, _∙_}
 use mathlib.Core.Bool.{Bool, true, false, cond}
-use mathlib.Core.Logic.{⊎-elim}
 use lib.IntN.{ℤ, pos, +ℤ-invr}
 use lib.Ieee.{fin, ofInt, add, div}
-use Rattle.refusals.specs.Paper.{answered}
+use Rattle.refusals.specs.Paper.{Paper}
 use Rattle.refusals.proofs.Laws.{paper-one, no-answer, answered-one}
-use Rattle.models.specs.declared.epochs.EpochOffset.{EpochOffset}
 use Rattle.models.specs.declared.epochs.EpochAnswer.{EpochAnswer}
 use Rattle.models.specs.declared.epochs.EpochAnswer.the-variants.{Epoch, Refused}
 use Rattle.models.specs.declared.errors.ErrorModelAnswer.{ErrorModelAnswer}
 use Rattle.models.specs.declared.errors.ErrorModelAnswer.the-variants as error-variants
 use Rattle.models.specs.Calendar.{leapYear}
-use Rattle.models.specs.Epochs.{knownEpoch, wholeAndPart, offsetOf, said, epochSays}
-use Rattle.models.specs.Errors.{errorModel, errorSaid, errorSays}
-use Rattle.models.specs.Dated.{Dated}
+use Rattle.models.specs.declared.errors.WmmErrorModel.{WmmErrorModel}
+use Rattle.models.specs.Epochs.{wholeAndPart, offsetOf, said, epochSays}
+use Rattle.models.specs.Errors.{errorSaid}
 
 -- ---- any two results that a contract allows are equal
 same-said : (r s : EpochAnswer) → said r ≡ said s → r ≡ s
@@ -32,13 +30,8 @@ same-error-said (error-variants.Model a) (error-variants.Refused l) h = absurd (
 same-error-said (error-variants.Refused k) (error-variants.Model b) h = absurd (no-answer k b h)
 same-error-said (error-variants.Refused k) (error-variants.Refused l) h = ap error-variants.Refused (paper-one k l h)
 
-pub error-answer-one : (e : ℤ) (r s : ErrorModelAnswer) → errorSaid r ≡ errorSays e → errorSaid s ≡ errorSays e → r ≡ s
-error-answer-one e r s h k = same-error-said r s (h ∙ sym k)
-
--- ---- the epoch year of an accepted day has its error figures
-pub dated-errors : {year day : ℤ} {e : EpochOffset} → Dated year day e → errorSays (e .«epoch_year») ≡ answered (errorModel (e .«epoch_year»))
-unfolding errorSays knownEpoch
-dated-errors t = rw (t .epoch-is) (⊎-elim (λ h. rw h) (λ h. rw h) (t .known))
+pub error-answer-one : (p : Paper WmmErrorModel) (r s : ErrorModelAnswer) → errorSaid r ≡ p → errorSaid s ≡ p → r ≡ s
+error-answer-one p r s h k = same-error-said r s (h ∙ sym k)
 
 -- ---- on day 1 of the epoch year the offset is +0
 pub offset-at-epoch : (year : ℤ) → offsetOf year year (pos 1) ≡ fin false 0 (pos 0)

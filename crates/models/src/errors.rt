@@ -4,7 +4,9 @@ use refusals::Refusal;
 ghost use mathlib.Core.Path.{_≡_};
 ghost use Rattle.models.specs.Errors.{errorSaid, errorSays};
 
-// Angles in degrees, strengths in nT. The declination's error is the root of the squares of sigma_c and sigma_v / H.
+// Angles in degrees, strengths in nT. The declination's error is the root of the squares of sigma_c and
+// sigma_v / H. C and Rust lend lists that hold it, so its layout is C's.
+#[repr(C)]
 pub struct WmmErrorModel {
     pub declination_sigma_c: f32,
     pub declination_sigma_v: f32,

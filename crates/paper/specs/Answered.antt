@@ -9,9 +9,9 @@ use Rattle.roots.specs.Root.{sqrtOf}
 use Rattle.refusals.specs.Paper.{Paper, answered}
 use Rattle.models.specs.Calendar.{leapYear}
 use Rattle.models.specs.Epochs.{dayExists, epochYear, knownEpoch, offsetOf, epochSays}
-use Rattle.models.specs.Errors.{errorModel}
+use Rattle.models.specs.Records.{figureOk, figuresOk, figuresSays, listedErrors}
+use Rattle.models.specs.Errors.{errors2025, errorSays}
 use Rattle.tables.specs.Tables.{schmidtAt, schmidtBits, kAt, kBits}
-use Rattle.synthesis.specs.declared.Xyz.{Xyz}
 use Rattle.sums.specs.Arithmetic.{rounded}
 use Rattle.sums.specs.Recurrence.{angle, dpsn, gc-hs, gs-hc, legendre, lit, pole-angle, pole-gc, pole-gs, pole-x, pole-x-row, pole-y, pole-z, pole-z-row, power, psn, quotient, step, total, x-row, x-sum, y-row, y-sum, z-row, z-sum}
 use Rattle.lists.specs.Lists.{entriesVerdict, listsVerdict}
@@ -20,7 +20,7 @@ use Rattle.sums.specs.Paths.{placed, small-sine}
 use Rattle.geocentric.specs.Geo.{flatness, curve, cosine-factor, sine-factor, cylinder, axis, radiusOf, cosOf, sinOf, ratioOf}
 use Rattle.strengths.specs.declared.GeomagneticField.{GeomagneticField}
 use Rattle.field.specs.Turn.{turn-x, turn-z, sin-turn, cos-turn}
-use Rattle.field.specs.Field.{Asked, asked, recordOf, handed, field-x, field-y, field-z, placeVerdict, shownSays, datedSays, fieldSays}
+use Rattle.field.specs.Field.{Asked, asked, recordOf, handed, field-x, field-y, field-z, placeVerdict, shownSays, datedSays, componentsSays, fieldWith, fieldSays}
 use Rattle.paper.specs.Examples.{nought, one, zeros, dipole}
 
 -- the place with this latitude's pair, at sea level, on longitude 0; the set is of 2025
@@ -29,9 +29,9 @@ at sin-phi cos-phi = asked nought sin-phi cos-phi nought one (pos 2025) dipole z
 
 -- the record with these bits as X and Z, and Y 0
 abbrev shown : (x z : ℕ) → Paper GeomagneticField
-shown x z = answered (recordOf (record { x = ofBits binary32 x; y = nought; z = ofBits binary32 z }) (pos 2025))
+shown x z = answered (recordOf (record { x = ofBits binary32 x; y = nought; z = ofBits binary32 z }) errors2025)
 
 -- on the equator the field points north, by 29,902.2 nT; at the pole it points down, by 60,410.0 nT (X is -0)
 pub field-answers : (fieldSays (at nought one) (pos 2025) (pos 1) ≡ shown 0x46e99c72 0) × (fieldSays (at one nought) (pos 2025) (pos 1) ≡ shown 0x80000000 0x476bfa0b)
-unfolding fieldSays placeVerdict datedSays shownSays handed field-x field-y field-z turn-x turn-z sin-turn cos-turn flatness curve cosine-factor sine-factor cylinder axis radiusOf cosOf sinOf ratioOf sqrtOf epochSays dayExists epochYear knownEpoch offsetOf leapYear errorModel listsVerdict entriesVerdict circle capped small-sine inputs placed schmidtAt schmidtBits kAt kBits rounded lit angle pole-angle step legendre total gc-hs gs-hc psn dpsn power x-row y-row z-row x-sum y-sum z-sum quotient pole-gc pole-gs pole-x-row pole-z-row pole-x pole-y pole-z ofBits ofInt round sum add sub mul neg div lt le eq
+unfolding fieldSays fieldWith componentsSays placeVerdict datedSays shownSays handed field-x field-y field-z turn-x turn-z sin-turn cos-turn flatness curve cosine-factor sine-factor cylinder axis radiusOf cosOf sinOf ratioOf sqrtOf epochSays dayExists epochYear knownEpoch offsetOf leapYear errorSays listedErrors figuresSays figuresOk figureOk listsVerdict entriesVerdict circle capped small-sine inputs placed schmidtAt schmidtBits kAt kBits rounded lit angle pole-angle step legendre total gc-hs gs-hc psn dpsn power x-row y-row z-row x-sum y-sum z-sum quotient pole-gc pole-gs pole-x-row pole-z-row pole-x pole-y pole-z ofBits ofInt round sum add sub mul neg div lt le eq
 field-answers = (refl, refl)

@@ -12,7 +12,8 @@ use Rattle.refusals.specs.Paper.{Paper, answered, refused}
 use Rattle.models.specs.Calendar.{leapYear}
 use Rattle.models.specs.declared.epochs.EpochOffset.{EpochOffset}
 use Rattle.models.specs.Epochs.{dayExists, epochYear, knownEpoch, offsetOf, epochSays}
-use Rattle.models.specs.Errors.{errorModel}
+use Rattle.models.specs.Records.{figureOk, figuresOk, figuresSays, listedErrors}
+use Rattle.models.specs.Errors.{errors2025, errorSays}
 use Rattle.tables.specs.Degree.{N-COEFF, place}
 use Rattle.tables.specs.Tables.{schmidtAt, schmidtBits, kAt, kBits}
 use Rattle.tables.specs.Rule.{misses}
@@ -24,9 +25,9 @@ use Rattle.lists.specs.Lists.{entriesVerdict, listsVerdict}
 use Rattle.synthesis.specs.Sum.{inputs, lent, numbersVerdict, offset-ok, ratio-ok, sumSays, valueOf}
 use Rattle.sums.specs.Paths.{placed, small-sine}
 use Rattle.strengths.specs.declared.GeomagneticField.{GeomagneticField}
-use Rattle.strengths.specs.Strengths.{usable, hOf, strengthSays, Warning, blackout, caution, no-zone, zoneOf, zoneSays, clamped, uncertaintySays}
+use Rattle.strengths.specs.Strengths.{usable, hOf, strengthSays, Warning, blackout, caution, no-zone, zoneOf, zoneSays, clamped, uncertaintyWith, uncertaintySays}
 use Rattle.strengths.specs.Grid.{wrapped}
-use Rattle.field.specs.Field.{asked, placeVerdict, shownSays, datedSays, fieldSays}
+use Rattle.field.specs.Field.{asked, placeVerdict, shownSays, datedSays, componentsSays, fieldWith, fieldSays}
 
 -- ---- what is said, as numbers
 -- a float by its bits
@@ -77,7 +78,7 @@ sectoral = set zeros 1 (ofBits binary32 0x458ca000)
 
 -- a record with Z 0
 abbrev field-of : Float → Float → GeomagneticField
-field-of x y = record { x = x; y = y; z = nought; error = errorModel (pos 2025) }
+field-of x y = record { x = x; y = y; z = nought; error = errors2025 }
 
 abbrev flat : GeomagneticField
 flat = field-of (ofBits binary32 0x44960000) (ofBits binary32 0x44c80000)
@@ -174,7 +175,7 @@ unfolding third ofBits toBits
 third-met = ap (row components) third-said
 
 others-met : map (λ (e : Example). e .said) others ≡ map (λ (e : Example). e .asked-for) others
-unfolding others listsVerdict entriesVerdict circle capped schmidtBits misses rounded epochSays dayExists epochYear knownEpoch offsetOf leapYear errorModel usable hOf strengthSays zoneOf zoneSays clamped uncertaintySays sqrtOf wrapped fieldSays placeVerdict datedSays shownSays ofBits ofInt round sum add sub mul neg div lt le eq
+unfolding others listsVerdict entriesVerdict circle capped schmidtBits misses rounded epochSays dayExists epochYear knownEpoch offsetOf leapYear errorSays listedErrors figuresSays figuresOk figureOk usable hOf strengthSays zoneOf zoneSays clamped uncertaintySays uncertaintyWith sqrtOf wrapped fieldSays fieldWith componentsSays placeVerdict datedSays shownSays ofBits ofInt round sum add sub mul neg div lt le eq
 others-met = refl
 
 -- every example says what document 01 says

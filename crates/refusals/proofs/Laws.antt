@@ -46,6 +46,7 @@ cases v =
     Refusal.Unusable ∷
     Refusal.Malformed (natAbs (whole v 0)) ∷
     Refusal.OutOfOrder (natAbs (whole v 0)) ∷
+    Refusal.NoErrorRecord ∷
     []
 
 -- the first refusal of the list that has the number n
@@ -69,6 +70,7 @@ read-back Refusal.Offset = refl
 read-back Refusal.Unusable = refl
 read-back (Refusal.Malformed i) = refl
 read-back (Refusal.OutOfOrder i) = refl
+read-back Refusal.NoErrorRecord = refl
 
 line-of : {A : Type 0} → Paper A → Line
 line-of (answered a) = carries 0 [] []

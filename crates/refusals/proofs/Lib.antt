@@ -1,3 +1,4 @@
 -- `Laws` is what other crates cite; `Unique` says that the contract leaves one result.
 pub mod Laws
+pub mod Clauses
 pub mod Unique

@@ -38,6 +38,8 @@ pub enum Refusal {
     Malformed { line: usize },
     // 14: the number of the line, or of the one that should have been there.
     OutOfOrder { line: usize },
+    // 15: a lent list has no error record of the year.
+    NoErrorRecord,
 }
 
 // A refusal's number.
@@ -59,6 +61,7 @@ pub fn number(k: Refusal) -> u32
         Refusal::Unusable => 12,
         Refusal::Malformed { .. } => 13,
         Refusal::OutOfOrder { .. } => 14,
+        Refusal::NoErrorRecord => 15,
     }
 }
 

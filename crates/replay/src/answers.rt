@@ -2,6 +2,7 @@
 // its numbers and asks the library. Every float takes nine bytes, so each stands at a known place.
 use crate::fields;
 use crate::forms;
+use crate::listed;
 use crate::published;
 use crate::read;
 use crate::replies;
@@ -89,6 +90,8 @@ fn reply(word: u64, line: &[u8], set: &[f32]) -> Reply {
         forms::FIELD => fields::place(line, set),
         forms::STR => fields::strengths(line),
         forms::GV => fields::grid(line),
+        forms::FLIST => listed::place(line, set),
+        forms::ULIST => listed::uncertainty(line),
         forms::ROW => published::on_day(line, set),
         forms::MID => published::at_offset(line, set),
         _ => replies::MALFORMED,

@@ -71,11 +71,15 @@ fn record(v: GeomagneticField) -> Reply {
     ]
 }
 
-pub fn place(line: &[u8], set: &[f32]) -> Reply {
-    match asked(line, 5, set) {
+pub fn told(a: FieldAnswer) -> Reply {
+    match a {
         FieldAnswer::Field(v) => record(v),
         FieldAnswer::Refused(why) => replies::refusal(why),
     }
+}
+
+pub fn place(line: &[u8], set: &[f32]) -> Reply {
+    told(asked(line, 5, set))
 }
 
 // A strength as a word. The strengths of a record are all refused or none, and H's refusal is told.
@@ -114,8 +118,8 @@ fn strengths_of(v: GeomagneticField) -> Reply {
 }
 
 // The error figures of a record of three given numbers. They do not matter: each uncertainty is
-// asked with a year, whose figures it takes.
-const NO_FIGURES: WmmErrorModel = WmmErrorModel {
+// asked with figures, or with a year, whose figures it takes.
+pub const NO_FIGURES: WmmErrorModel = WmmErrorModel {
     declination_sigma_c: 0.0,
     declination_sigma_v: 0.0,
     inclination: 0.0,
@@ -126,13 +130,20 @@ const NO_FIGURES: WmmErrorModel = WmmErrorModel {
     z: 0.0,
 };
 
-pub fn strengths(line: &[u8]) -> Reply {
-    strengths_of(GeomagneticField {
-        x: read::float(line, 3),
-        y: read::float(line, 12),
-        z: read::float(line, 21),
+// The record of the three numbers from `at` on.
+pub fn components(line: &[u8], at: usize) -> GeomagneticField
+    requires { ⌜ at ≤ 5 ⌝ }
+{
+    GeomagneticField {
+        x: read::float(line, at),
+        y: read::float(line, at + 9),
+        z: read::float(line, at + 18),
         error: NO_FIGURES,
-    })
+    }
+}
+
+pub fn strengths(line: &[u8]) -> Reply {
+    strengths_of(components(line, 3))
 }
 
 // The word P where there is one, N where there is none.

@@ -25,21 +25,28 @@ pub const WHOLE: u64 = 0x57_48_4f_4c_45;
 
 pub const COF: u64 = 0x43_4f_46;
 
-// What follows the first word, which ends at `at`: floats, then a year and a day or not, then the
-// floats that are listed.
+pub const FLIST: u64 = 0x46_4c_49_53_54;
+
+pub const ULIST: u64 = 0x55_4c_49_53_54;
+
+// What follows the first word, which ends at `at`: floats, then years and days, then the floats of a
+// published row or a list of error records.
 pub struct Form {
     pub at: usize,
     floats: u64,
-    has_day: bool,
-    listed: u64,
+    ints: u64,
+    last: u64,
 }
 
-fn made(at: usize, floats: u64, has_day: bool, listed: u64) -> Form {
+// For the last part: a list of error records, and no so many floats.
+const RECORDS: u64 = u64::MAX;
+
+fn made(at: usize, floats: u64, ints: u64, last: u64) -> Form {
     Form {
         at,
         floats,
-        has_day,
-        listed,
+        ints,
+        last,
     }
 }
 
@@ -47,31 +54,33 @@ fn made(at: usize, floats: u64, has_day: bool, listed: u64) -> Form {
 // are no question.
 pub fn form_of(word: u64) -> Form {
     match word {
-        SUM => made(3, 6, false, 0),
-        FIELD => made(5, 5, true, 0),
-        EPOCH => made(5, 0, true, 0),
-        STR => made(3, 3, false, 0),
-        GV => made(2, 3, false, 0),
-        SQRT => made(4, 1, false, 0),
-        ROW => made(3, 5, true, 3),
-        MID => made(3, 6, false, 3),
-        DEC => made(3, 0, false, 0),
-        WHOLE => made(5, 0, false, 0),
-        COF => made(3, 0, false, 0),
-        _ => made(NOWHERE, 0, false, 0),
+        SUM => made(3, 6, 0, 0),
+        FIELD => made(5, 5, 2, 0),
+        EPOCH => made(5, 0, 2, 0),
+        STR => made(3, 3, 0, 0),
+        GV => made(2, 3, 0, 0),
+        SQRT => made(4, 1, 0, 0),
+        ROW => made(3, 5, 2, 3),
+        MID => made(3, 6, 0, 3),
+        DEC => made(3, 0, 0, 0),
+        WHOLE => made(5, 0, 0, 0),
+        COF => made(3, 0, 0, 0),
+        FLIST => made(5, 5, 2, RECORDS),
+        ULIST => made(5, 3, 1, RECORDS),
+        _ => made(NOWHERE, 0, 0, 0),
     }
 }
 
-fn after_day(line: &[u8], at: usize, has_day: bool) -> usize {
-    if has_day {
-        return read::day_end(line, at);
+fn last_end(line: &[u8], at: usize, last: u64) -> usize {
+    if last == RECORDS {
+        return read::records_end(line, at);
     }
-    at
+    read::floats_end(line, at, last)
 }
 
 // The whole question can be read.
 pub fn fits(line: &[u8], f: Form) -> bool {
-    let day = read::floats_end(line, f.at, f.floats);
-    let listed = after_day(line, day, f.has_day);
-    read::floats_end(line, listed, f.listed) == line.len()
+    let ints = read::floats_end(line, f.at, f.floats);
+    let last = read::ints_end(line, ints, f.ints);
+    last_end(line, last, f.last) == line.len()
 }

@@ -4,6 +4,7 @@ mod blocks;
 mod fields;
 mod forms;
 mod lines;
+mod listed;
 mod published;
 mod read;
 mod replies;

@@ -190,20 +190,48 @@ pub fn day(line: &[u8], at: usize) -> Day {
     }
 }
 
-// The place after a year and a day.
-pub fn day_end(line: &[u8], at: usize) -> usize {
-    let year = int(line, at);
-    let day_of_year = int(line, year.next);
-    day_of_year.next
+// The place after `n` years, days or epochs.
+pub fn ints_end(line: &[u8], at: usize, n: u64) -> usize {
+    let mut next = at;
+    let mut i: u64 = 0;
+    while i < n {
+        let d = int(line, next);
+        next = d.next;
+        i += 1;
+    }
+    next
 }
 
-// How many floats a list has: at most 128.
-pub fn count(line: &[u8], at: usize) -> NumberAt {
-    decimal(line, after(line, at, b' '), 3, 128)
+// How many entries a list has: at most `most`.
+pub fn count(line: &[u8], at: usize, most: u64) -> NumberAt {
+    decimal(line, after(line, at, b' '), 3, most)
 }
+
+// The most floats of a list, and the most error records.
+pub const FLOATS: u64 = 128;
+
+pub const RECORDS: u64 = 20;
 
 // The place after a count and so many floats.
 pub fn list_end(line: &[u8], at: usize) -> usize {
-    let n = count(line, at);
+    let n = count(line, at, FLOATS);
     floats_end(line, n.next, n.value)
+}
+
+// The place after an error record, a year and eight floats.
+pub fn record_end(line: &[u8], at: usize) -> usize {
+    let year = int(line, at);
+    floats_end(line, year.next, 8)
+}
+
+// The place after a count and so many error records.
+pub fn records_end(line: &[u8], at: usize) -> usize {
+    let n = count(line, at, RECORDS);
+    let mut next = n.next;
+    let mut i: u64 = 0;
+    while i < n.value {
+        next = record_end(line, next);
+        i += 1;
+    }
+    next
 }

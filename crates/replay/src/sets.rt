@@ -65,7 +65,7 @@ pub fn is_one(line: &[u8]) -> bool {
 fn take_list(line: &[u8], at: usize, set: &mut [f32], to: usize) -> usize
     requires { ⌜ to ≤ 389 ⌝ }
 {
-    let n = read::count(line, at);
+    let n = read::count(line, at, read::FLOATS);
     let start = to + 1;
     let end = start + (n.value % 0x1_0000) as usize;
     if set.len() < end {

@@ -1,6 +1,6 @@
 -- Where H is 0 the uncertainty is 180, whatever the two figures are: σ_v / H is then infinite or a NaN, and nothing after it is below 180. Assumes nothing.
 use mathlib.Core.Path.{_≡_, refl, sym, subst}
-use Prim.Native.Nat.{ℕ, zero, suc, _*_, _<_}
+use Prim.Native.Nat.{zero, suc, _*_, _<_}
 use native.Mathlib.Nat.{mul-pos, zero-lt-suc}
 use native.Mathlib.Omega.{arith}
 use mathlib.Core.Bool.{Bool, true, false, not, _||_, cond, Bool·beq, true≢false}
@@ -11,10 +11,11 @@ use lib.Ieee.Fits.{up-pos, and-l}
 use lib.Ieee.Scale.{finite}
 use Rattle.roots.specs.Root.{sqrtOf}
 use Rattle.refusals.specs.Paper.{answered}
+use Rattle.models.specs.declared.errors.WmmErrorModel.{WmmErrorModel}
 use Rattle.models.specs.Epochs.{knownEpoch}
-use Rattle.models.specs.Errors.{errorModel}
+use Rattle.models.proofs.BuiltIn.{known-errors, known-listed}
 use Rattle.strengths.specs.declared.GeomagneticField.{GeomagneticField}
-use Rattle.strengths.specs.Strengths.{usable, hypotOf, hOf, clamped, uncertaintyOf, uncertaintySays}
+use Rattle.strengths.specs.Strengths.{usable, hypotOf, hOf, clamped, uncertaintyWith, uncertaintySays}
 
 -- a NaN, or an infinity above zero
 endless : Float → Bool
@@ -82,7 +83,13 @@ endless-clamped (fin s m e) p = absurd p
 pub uncertainty-at-zero : (c v h : Float) → eq h (ofBits binary32 0) ≡ true → clamped (hypotOf c (div binary32 v h)) ≡ ofBits binary32 0x43340000
 uncertainty-at-zero c v h z = endless-clamped _ (endless-root _ (endless-sum _ _ (endless-square (div binary32 v h) (over-zero v h z))))
 
--- so for a record that can be used, with H = 0, in either epoch
-pub record-at-zero : (r : GeomagneticField) (year : ℤ) → knownEpoch year ≡ true → usable r ≡ true → eq (hOf r) (ofBits binary32 0) ≡ true → uncertaintySays r year ≡ answered (ofBits binary32 0x43340000)
-unfolding uncertaintySays
-record-at-zero r year k u z = rw (k, u, uncertainty-at-zero (errorModel year .«declination_sigma_c») (errorModel year .«declination_sigma_v») (hOf r) z)
+-- so for a record that can be used, with H = 0, whatever the figures
+module _ (r : GeomagneticField) (u : usable r ≡ true) (z : eq (hOf r) (ofBits binary32 0) ≡ true) where
+  pub record-at-zero : (m : WmmErrorModel) → uncertaintyWith (answered m) r ≡ answered (ofBits binary32 0x43340000)
+  unfolding uncertaintyWith
+  record-at-zero m = rw (u, uncertainty-at-zero (m .«declination_sigma_c») (m .«declination_sigma_v») (hOf r) z)
+
+  -- and in either epoch
+  pub epoch-at-zero : (year : ℤ) → knownEpoch year ≡ true → uncertaintySays r year ≡ answered (ofBits binary32 0x43340000)
+  unfolding uncertaintySays
+  epoch-at-zero year k = let l = known-listed year k in rw (known-errors year k, l .1) (record-at-zero (l .0))

@@ -5,11 +5,12 @@ use lib.IntN.{ℤ}
 use lib.Ieee.{Float, binary32, ofBits, lt}
 use Rattle.refusals.specs.declared.Refusal.{Refusal}
 use Rattle.refusals.specs.declared.Refusal.the-variants.{Unusable}
-use Rattle.refusals.specs.Paper.{Paper, answered, paper, unless}
-use Rattle.refusals.proofs.Laws.{passed, paper-one, no-answer, answered-one}
+use Rattle.refusals.specs.Paper.{Paper, answered, paper, unless, after}
+use Rattle.refusals.proofs.Laws.{paper-one, no-answer, answered-one}
 use Rattle.models.specs.declared.errors.WmmErrorModel.{WmmErrorModel}
-use Rattle.models.specs.Epochs.{unknownEpoch, wrongEpoch, knownEpoch}
-use Rattle.models.specs.Errors.{errorModel, errorSays}
+use Rattle.models.specs.Epochs.{wrongEpoch, knownEpoch}
+use Rattle.models.specs.Records.{listedErrors}
+use Rattle.models.specs.Errors.{builtIn, errorSays}
 use Rattle.strengths.specs.declared.GeomagneticField.{GeomagneticField}
 use Rattle.strengths.specs.declared.StrengthAnswer.{StrengthAnswer}
 use Rattle.strengths.specs.declared.StrengthAnswer.the-variants as Strength
@@ -17,7 +18,7 @@ use Rattle.strengths.specs.declared.ZoneAnswer.{ZoneAnswer}
 use Rattle.strengths.specs.declared.ZoneAnswer.the-variants as Zone
 use Rattle.strengths.specs.declared.grid.GridAnswer.{GridAnswer}
 use Rattle.strengths.specs.declared.grid.GridAnswer.the-variants as Grid
-use Rattle.strengths.specs.Strengths.{hypotOf, hOf, usable, Warning, blackout, caution, no-zone, zoneOf, zoneSays, zoneSaid, strengthSaid, uncertaintyOf, uncertaintySays}
+use Rattle.strengths.specs.Strengths.{hypotOf, hOf, usable, Warning, blackout, caution, no-zone, zoneOf, zoneSays, zoneSaid, strengthSaid, uncertaintyOf, uncertaintyWith, uncertaintySays, listedUncertainty}
 use Rattle.strengths.specs.Grid.{Variation, degrees, absent, gridSaid}
 
 pub not-not : (b : Bool) → not (not b) ≡ b
@@ -44,28 +45,33 @@ module _ (v : GeomagneticField) (h : Float) (u : usable v ≡ true) (e : h ≡ h
     pub zone-none : lt h (ofBits binary32 0x45bb8000) ≡ false → answered no-zone ≡ zoneSays v
     zone-none b = zone-is no-zone (unfold zoneOf in rw (a, b))
 
--- ---- the uncertainty
-module _ (v : GeomagneticField) (y : ℤ) where
-  pub uncertainty-refused : (k : Refusal) → paper k ≡ errorSays y → paper k ≡ uncertaintySays v y
-  unfolding errorSays uncertaintySays
-  uncertainty-refused k h = go (knownEpoch y) h
-    where
-      go : (b : Bool) → paper k ≡ unless b wrongEpoch (answered (errorModel y)) → paper k ≡ unless b wrongEpoch (unless (usable v) (paper Unusable) (answered (uncertaintyOf (errorModel y) (hOf v))))
-      go true e = absurd (no-answer k (errorModel y) e)
-      go false e = ap paper (paper-one k unknownEpoch e)
+-- ---- the uncertainty, with any figures
+module _ (v : GeomagneticField) (figures : Paper WmmErrorModel) where
+  pub uncertainty-refused : (k : Refusal) → figures ≡ paper k → paper k ≡ uncertaintyWith figures v
+  unfolding uncertaintyWith
+  uncertainty-refused k h = rw h
 
-  module _ (m : WmmErrorModel) (h : answered m ≡ errorSays y) where
-    known : (knownEpoch y ≡ true) × (answered (errorModel y) ≡ answered m)
-    unfolding errorSays
-    known = passed (knownEpoch y) unknownEpoch (answered (errorModel y)) m (sym h)
+  module _ (m : WmmErrorModel) (h : figures ≡ answered m) where
+    pub uncertainty-unusable : usable v ≡ false → paper Unusable ≡ uncertaintyWith figures v
+    unfolding uncertaintyWith
+    uncertainty-unusable u = rw (h, u)
 
-    pub uncertainty-unusable : usable v ≡ false → paper Unusable ≡ uncertaintySays v y
-    unfolding uncertaintySays
-    uncertainty-unusable u = rw (known .0, u)
+    pub uncertainty-usable : usable v ≡ true → answered (uncertaintyOf m (hOf v)) ≡ uncertaintyWith figures v
+    unfolding uncertaintyWith
+    uncertainty-usable u = rw (h, u)
 
-    pub uncertainty-shown : usable v ≡ true → (s : Float) → s ≡ hypotOf (v .x) (v .y) → (x : Float) → x ≡ uncertaintyOf m s → answered x ≡ uncertaintySays v y
-    unfolding uncertaintySays hOf
-    uncertainty-shown u s es x ex = rw (known .0, u, answered-one (errorModel y) m (known .1), ex, es)
+    pub uncertainty-shown : usable v ≡ true → (s : Float) → s ≡ hypotOf (v .x) (v .y) → (x : Float) → x ≡ uncertaintyOf m s → answered x ≡ uncertaintyWith figures v
+    unfolding hOf
+    uncertainty-shown u s es x ex = rw (ex, es) (uncertainty-usable u)
+
+-- the call without a list is the call with the built-in list, but for refusal 5 in place of 15
+pub built-in-uncertainty : (v : GeomagneticField) (year : ℤ) → uncertaintySays v year ≡ unless (knownEpoch year) wrongEpoch (listedUncertainty v builtIn year)
+unfolding uncertaintySays listedUncertainty uncertaintyWith errorSays
+built-in-uncertainty v year = go (knownEpoch year) (listedErrors builtIn year) _
+  where
+    go : (b : Bool) (p : Paper WmmErrorModel) (f : WmmErrorModel → Paper Float) → after (unless b wrongEpoch p) f ≡ unless b wrongEpoch (after p f)
+    go true p f = refl
+    go false p f = refl
 
 -- ---- any two answers that say the same are equal
 pub strength-one : (p : Paper Float) (r s : StrengthAnswer) → strengthSaid r ≡ p → strengthSaid s ≡ p → r ≡ s

@@ -1,14 +1,16 @@
 -- The strengths over a field record (document 01, module 9; WMM2025 TR, sections 1.8 and 3.4). Definitions only.
 use mathlib.Core.Bool.{Bool, _&&_, cond}
+use mathlib.Core.List.{List}
 use lib.IntN.{ℤ}
 use lib.Ieee.{Float, binary32, ofBits, add, mul, div, lt}
 use Rattle.exact.specs.Tests.{capped}
 use Rattle.roots.specs.Root.{sqrtOf}
-use Rattle.refusals.specs.Paper.{Paper, answered, paper, unless}
+use Rattle.refusals.specs.Paper.{Paper, answered, paper, unless, after}
 use Rattle.refusals.specs.declared.Refusal.the-variants.{Unusable}
 use Rattle.models.specs.declared.errors.WmmErrorModel.{WmmErrorModel}
-use Rattle.models.specs.Epochs.{wrongEpoch, knownEpoch}
-use Rattle.models.specs.Errors.{errorModel}
+use Rattle.models.specs.declared.records.ErrorRecord.{ErrorRecord}
+use Rattle.models.specs.Records.{listedErrors}
+use Rattle.models.specs.Errors.{errorSays}
 use Rattle.strengths.specs.declared.GeomagneticField.{GeomagneticField}
 use Rattle.strengths.specs.declared.StrengthAnswer.{StrengthAnswer}
 use Rattle.strengths.specs.declared.StrengthAnswer.the-variants as Strength
@@ -72,8 +74,14 @@ clamped u = cond (lt u (ofBits binary32 0x43340000)) u (ofBits binary32 0x433400
 abbrev pub uncertaintyOf : WmmErrorModel → Float → Float
 uncertaintyOf m h = clamped (hypotOf (m .«declination_sigma_c») (div binary32 (m .«declination_sigma_v») h))
 
--- refusal 5, then refusal 12, or the uncertainty with the figures of the year
+-- what refuses the figures, then refusal 12, or the uncertainty with those figures
+unfoldable pub uncertaintyWith : Paper WmmErrorModel → GeomagneticField → Paper Float
+uncertaintyWith figures v = after figures (λ m. unless (usable v) (paper Unusable) (answered (uncertaintyOf m (hOf v))))
+
+-- with the built-in figures of the year: refusal 5, then 12
 unfoldable pub uncertaintySays : GeomagneticField → ℤ → Paper Float
-uncertaintySays v year =
-    unless (knownEpoch year) wrongEpoch
-    (unless (usable v) (paper Unusable) (answered (uncertaintyOf (errorModel year) (hOf v))))
+uncertaintySays v year = uncertaintyWith (errorSays year) v
+
+-- with the figures of a lent list: refusal 15, or 12 of the figures, then 12 of the record
+unfoldable pub listedUncertainty : GeomagneticField → List ErrorRecord → ℤ → Paper Float
+listedUncertainty v rs year = uncertaintyWith (listedErrors rs year) v

@@ -1,11 +1,13 @@
 // The field record, and the strengths over it. Each takes the record by value, and refuses one with
 // a component that is no usable number.
 use models::ErrorModelAnswer;
+use models::ErrorRecord;
 use models::WmmErrorModel;
 use refusals::Refusal;
 ghost use mathlib.Core.Path.{_≡_};
 ghost use lib.Ieee.{binary32, div};
-ghost use Rattle.strengths.specs.Strengths.{usable, hypotOf, hOf, fOf, strengthSaid, strengthSays, zoneSaid, zoneSays, clamped, uncertaintySays};
+ghost use Rattle.models.specs.Errors.{errorSaid};
+ghost use Rattle.strengths.specs.Strengths.{usable, hypotOf, hOf, fOf, strengthSaid, strengthSays, zoneSaid, zoneSays, clamped, uncertaintyWith, uncertaintySays, listedUncertainty};
 
 mod grid;
 
@@ -105,11 +107,11 @@ impl GeomagneticField {
         ZoneAnswer::NoZone
     }
 
-    // The figures are those of the year that is asked for, whatever the record holds.
-    pub fn declination_uncertainty(self, epoch_year: i32) -> StrengthAnswer
-        ensures { λ r. ⌜ strengthSaid r ≡ uncertaintySays self «epoch_year» ⌝ }
+    // One body for built-in and lent figures: what refuses them, then refusal 12.
+    pub fn uncertainty_with(self, figures: ErrorModelAnswer) -> StrengthAnswer
+        ensures { λ r. ⌜ strengthSaid r ≡ uncertaintyWith (errorSaid figures) self ⌝ }
     {
-        match models::error_model_by_epoch_year(epoch_year) {
+        match figures {
             ErrorModelAnswer::Refused(k) => StrengthAnswer::Refused(k),
             ErrorModelAnswer::Model(m) => {
                 if !self.is_usable() {
@@ -123,5 +125,25 @@ impl GeomagneticField {
                 ))
             }
         }
+    }
+
+    // The figures are those of the year that is asked for, whatever the record holds.
+    pub fn declination_uncertainty(self, epoch_year: i32) -> StrengthAnswer
+        ensures { λ r. ⌜ strengthSaid r ≡ uncertaintySays self «epoch_year» ⌝ }
+    {
+        self.uncertainty_with(models::error_model_by_epoch_year(epoch_year))
+    }
+
+    // The same with the figures of a lent list. Its proof is a walk by hand, for the slice of structs.
+    pub fn declination_uncertainty_listed(
+        self,
+        records: &[ErrorRecord],
+        epoch_year: i32,
+    ) -> StrengthAnswer
+        ensures { λ r. ⌜ strengthSaid r ≡ listedUncertainty self (now (records .entry)) «epoch_year» ⌝ }
+        ensures kept { λ _. ⌜ now (records .exit) ≡ now (records .entry) ⌝ }
+    {
+        let figures = models::error_model_listed(records, epoch_year);
+        self.uncertainty_with(figures)
     }
 }

@@ -109,11 +109,20 @@ fn good_line(generator: &mut Generator, out: &mut Vec<u8>) -> Vec<u8> {
     line
 }
 
-/// Writes one damaged line with its answer. It is no SET line that can be read, and a right run
-/// writes it back as it is.
+/// Writes one damaged line with its answer.
 pub fn bad_line(generator: &mut Generator, out: &mut Vec<u8>) {
+    damaged_line(generator, out, good_line);
+}
+
+/// Damages a good line and writes it with its answer. It is no SET line that can be read, and a right
+/// run writes it back as it is.
+pub fn damaged_line(
+    generator: &mut Generator,
+    out: &mut Vec<u8>,
+    good: impl Fn(&mut Generator, &mut Vec<u8>) -> Vec<u8>,
+) {
     loop {
-        let mut text = good_line(generator, out);
+        let mut text = good(generator, out);
         for _ in 0..generator.rng.below(3) + 1 {
             spoil(&mut generator.rng, &mut text);
         }

@@ -1,7 +1,7 @@
 //! Cases of places and days: SUM, FIELD and EPOCH, and the sets that they use.
 use super::rng::{plan, plans, random_plan};
 use super::{lists, pairs, Generator};
-use crate::entries::Set;
+use crate::entries::{Place, Set};
 use crate::format::Case;
 use crate::models::{date_to_epoch_year, days_in_year};
 use crate::sets::WMM_MODELS;
@@ -90,6 +90,11 @@ impl Generator {
     }
 
     pub fn field_case(&mut self, place: Option<usize>, out: &mut Vec<u8>) -> Case<'static> {
+        Case::Field(self.place(place, out))
+    }
+
+    /// The place and the day of a FIELD case.
+    pub fn place(&mut self, place: Option<usize>, out: &mut Vec<u8>) -> Place {
         self.need_set(out);
         let rng = &mut self.rng;
         let mut date = None;
@@ -112,7 +117,7 @@ impl Generator {
         let (sin_phi, cos_phi) = pairs::latitude(rng, height, ways[1]);
         let (sin_lambda, cos_lambda) = pairs::longitude(rng, ways[2]);
         let (year, day) = date.unwrap_or_else(|| self.date(ways[3], ways[4]));
-        Case::Field {
+        Place {
             height,
             sin_phi,
             cos_phi,

@@ -7,7 +7,7 @@ use crate::replay::{answer, LONGEST};
 use std::io::BufReader;
 
 /// What the oracle writes for an input, read in small parts.
-fn answered(input: &[u8]) -> String {
+pub fn answered(input: &[u8]) -> String {
     let mut output = Vec::new();
     let mut input = BufReader::with_capacity(7, input);
     answer(&mut input, &mut output).unwrap();

@@ -1,6 +1,6 @@
 //! Generated cases come back as they are, and meet what they are meant to meet.
 use crate::cases::{write_cases, Kind, KINDS};
-use crate::entries::{off_the_circle, within, Set, CAPS, CIRCLE_SLACK};
+use crate::entries::{off_the_circle, within, Place, Set, CAPS, CIRCLE_SLACK};
 use crate::field::{geodetic_to_geocentric, NEAR_POLE_SIN_THETA_MIN};
 use crate::format::{parse_case, parse_set, Case};
 use crate::layout::published_file;
@@ -65,14 +65,14 @@ fn cases_meet_every_edge() {
                     met.insert(format!("circle {:08x}", (s * s + c * c).to_bits()));
                 }
             }
-            Case::Field {
+            Case::Field(Place {
                 height,
                 sin_phi,
                 cos_phi,
                 year,
                 day,
                 ..
-            } if answer.starts_with(['0', '8']) => {
+            }) if answer.starts_with(['0', '8']) => {
                 let (_, _, sin_theta) = geodetic_to_geocentric(height, sin_phi, cos_phi);
                 if near(sin_theta).abs() <= 1 {
                     met.insert(format!("field near {}", near(sin_theta)));
@@ -150,7 +150,7 @@ fn faults(case: &Case, set: &Set) -> Vec<&'static str> {
             ("10", !within(ratio, 0.875, 1.015625)),
             ("11", !within(offset, 0.0, 5.0)),
         ]),
-        Case::Field {
+        Case::Field(Place {
             height,
             sin_phi,
             cos_phi,
@@ -158,7 +158,7 @@ fn faults(case: &Case, set: &Set) -> Vec<&'static str> {
             cos_lambda,
             year,
             day,
-        } => {
+        }) => {
             let of_day = date_to_epoch_year(year);
             let good = |epoch| epoch == 2020 || epoch == 2025;
             tests.extend([

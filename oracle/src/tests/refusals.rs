@@ -37,10 +37,7 @@ impl FieldCall {
 }
 
 fn number(refusal: Refusal) -> u32 {
-    let mut text = Vec::new();
-    crate::format::put_refusal(&mut text, &refusal);
-    let text = String::from_utf8(text).unwrap();
-    text.split(' ').next().unwrap().parse().unwrap()
+    refusal.number()
 }
 
 #[test]

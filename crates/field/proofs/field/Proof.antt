@@ -1,97 +1,39 @@
--- `field::field` meets its contract: each return is a law of proofs/Answers.antt. Assumes nothing.
-use mathlib.Core.Path.{_≡_, refl, sym, ap, _∙_}
+-- `field::field` meets its contract: refusal 8 makes the figures of the set's year those of the day's epoch. Assumes nothing.
+use mathlib.Core.Path.{_≡_, refl, ap, _∙_}
 use mir.Syntax.{w32}
 use mir.ValLaws.{toZ-ofZ}
 use denote.Ref.{now}
-use Rattle.refusals.specs.declared.Verdict.the-variants as Verdict
-use Rattle.models.specs.Epochs.{said, epochSays}
-use Rattle.field.specs.Field.{Asked, asked}
-use Rattle.field.proofs.Laws.{accepted-at}
-use Rattle.field.proofs.Answers.{of-place, place-refused, day-refused, day-answered, answer-close}
+use Rattle.refusals.specs.Paper.{Paper}
+use Rattle.models.specs.declared.errors.WmmErrorModel.{WmmErrorModel}
+use Rattle.models.specs.Errors.{errorSaid, errorSays}
+use Rattle.field.specs.Field.{Asked, asked, said, fieldWith, fieldSays}
+use Rattle.field.proofs.Answers.{by-8, field-close}
 use borrow.Author.Needs.{needs}
 use Rattle.field.proofs.field.Statement.{statement}
 use Rattle.field.proofs.field.Tie as tie
 
-check-place-requires : tie.Need-check-place-requires
-check-place-requires c κs = search needs
+error-model-by-epoch-year-requires : tie.Need-error-model-by-epoch-year-requires
+error-model-by-epoch-year-requires c κs = search needs
 
-enum-known-k : tie.Need-enum-known-k
-enum-known-k c = search needs
+field-with-requires : tie.Need-field-with-requires
+field-with-requires c κs = search needs
 
-returns : tie.Need-returns
-returns c =
-    let p = c .before .before .before in
-    let e = place-refused _ _ _ _ (sym (p .check-place .ensures) ∙ c .before .k .given .1) in
-    (e, (answer-close _ _ _ _ e, (refl, refl, refl, refl)))
-
-enum-told : tie.Need-enum-told
-enum-told c = search needs
-
-epoch-requires : tie.Need-epoch-requires
-epoch-requires c κs = search needs
-
-enum-known-k-2 : tie.Need-enum-known-k-2
-enum-known-k-2 c = search needs
-
-enum-known-e : tie.Need-enum-known-e
-enum-known-e c = search needs
-
--- what is asked, and the day as Epoch is given it
 abbrev asks : tie.Start → Asked
 asks s =
     let a = s .args in
     asked (a .height) (a .latitude .sin) (a .latitude .cos) (a .longitude .sin) (a .longitude .cos) (a .epoch-year) (now (a .g)) (now (a .h)) (now (a .g-dot)) (now (a .h-dot))
 
-day-said : (c : tie.After-epoch) → said (c .epoch .result) ≡ epochSays (c .before .before .before .before .before .before .before .before .before .before .args .day .year) (c .before .before .before .before .before .before .before .before .before .before .args .day .«day_of_year»)
-day-said c =
-    let d = c .before .before .before .before .before .before .before .before .before .before .args .day in
-    let g = c .before .struct-told2 .given in
-    rw (toZ-ofZ w32 (d .year) (record { sfits = g .0 .1 }), toZ-ofZ w32 (d .«day_of_year») (record { sfits = g .1 .0 .1 })) at (c .epoch .ensures)
-
-abbrev starts : tie.After-enum-told → Asked
-starts c = asks (c .before .before .before .before .before .before .before)
-
-passed-place : (c : tie.After-enum-told) → of-place (starts c) ≡ Verdict.Accepted
-passed-place c = sym (c .before .before .check-place .ensures) ∙ c .enum-told .given .1
-
-field-at-requires : tie.Need-field-at-requires
-field-at-requires c κs =
-    let d = c .before in
-    let q = d .before .before in
-    let o = q .before .before .before in
-    let s = o .before .before .before .before .before .before .before in
+returns : tie.Need-returns
+unfolding fieldSays
+returns c =
+    let m = c .before in
+    let s = m .before .before .before .before .before in
+    let d = s .args .day in
     let y = toZ-ofZ w32 (s .args .epoch-year) (s .fits .epoch-year) in
-    rw y (accepted-at (asks s) _ _ (passed-place o) _ (sym (day-said q) ∙ ap said (d .e .given .1)))
-
-returns-2 : tie.Need-returns-2
-returns-2 c =
-    let q = c .before .before .before in
-    let o = q .before .before .before in
-    let s = o .before .before .before .before .before .before .before in
-    let e = day-refused (asks s) _ _ (passed-place o) (c .before .k2 .given .0 .0) (sym (ap said (c .before .k2 .given .1)) ∙ day-said q) in
-    (e, (answer-close _ _ _ _ e, (refl, refl, refl, refl)))
-
-returns-3 : tie.Need-returns-3
-returns-3 c =
-    let d = c .before .before in
-    let q = d .before .before in
-    let o = q .before .before .before in
-    let s = o .before .before .before .before .before .before .before in
-    let y = toZ-ofZ w32 (s .args .epoch-year) (s .fits .epoch-year) in
-    let e = day-answered (asks s) _ _ (passed-place o) _ (sym (ap said (d .e .given .1)) ∙ day-said q) _ (rw y at (c .field-at .ensures)) in
-    (e, (answer-close _ _ _ _ e, (refl, refl, refl, refl)))
+    let f : errorSaid (m .error-model-by-epoch-year .result) ≡ errorSays (s .args .epoch-year) = m .error-model-by-epoch-year .ensures ∙ ap errorSays y in
+    let w : said (c .field-with .result) ≡ fieldWith (errorSaid (m .error-model-by-epoch-year .result)) (asks s) (d .year) (d .«day_of_year») = rw y at (c .field-with .ensures .0) in
+    let e = w ∙ ap (λ (p : Paper WmmErrorModel). fieldWith p (asks s) (d .year) (d .«day_of_year»)) f ∙ by-8 errorSays (asks s) (d .year) (d .«day_of_year») in
+    (e, (field-close (asks s) (d .year) (d .«day_of_year») _ e, (refl, refl, refl, refl)))
 
 pub field-spec : {M : Type 1} → statement M
-field-spec =
-    tie.close
-    (tie.spec
-    check-place-requires
-    enum-known-k
-    returns
-    enum-told
-    epoch-requires
-    enum-known-k-2
-    enum-known-e
-    field-at-requires
-    returns-2
-    returns-3)
+field-spec = tie.close (tie.spec error-model-by-epoch-year-requires field-with-requires returns)

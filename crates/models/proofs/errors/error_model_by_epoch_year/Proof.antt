@@ -1,19 +1,21 @@
 -- `models::errors::error_model_by_epoch_year` meets its contract. Assumes nothing.
 use mathlib.Core.Path.{refl}
+use lib.Ieee.{ofBits, le}
 use borrow.Author.Needs.{needs}
 use Rattle.models.specs.Epochs.{knownEpoch}
-use Rattle.models.specs.Errors.{errorModel, errorSays}
+use Rattle.models.specs.Errors.{errorSays}
+use Rattle.models.specs.Records.{figureOk, figuresOk, figuresSays, listedErrors}
 use Rattle.models.specs.Signed.{year-is, year-not}
 use Rattle.models.proofs.errors.error_model_by_epoch_year.Statement.{statement}
 use Rattle.models.proofs.errors.error_model_by_epoch_year.Tie as tie
 
 returns : tie.Need-returns
-unfolding knownEpoch errorModel errorSays
+unfolding knownEpoch figureOk figuresOk figuresSays listedErrors errorSays le ofBits
 returns c =
     simp (year-is (c .before .args .epoch-year) (c .before .fits .epoch-year) (c .if1 .taken) (search needs)) refl
 
 returns-2 : tie.Need-returns-2
-unfolding knownEpoch errorModel errorSays
+unfolding knownEpoch figureOk figuresOk figuresSays listedErrors errorSays le ofBits
 returns-2 c =
     let s = c .before .before in
     let e = s .args .epoch-year in
@@ -21,7 +23,7 @@ returns-2 c =
     simp (year-not e f (c .before .if1 .left) (search needs), year-is e f (c .if2 .taken) (search needs)) refl
 
 returns-3 : tie.Need-returns-3
-unfolding knownEpoch errorModel errorSays
+unfolding knownEpoch figureOk figuresOk figuresSays listedErrors errorSays le ofBits
 returns-3 c =
     let s = c .before .before in
     let e = s .args .epoch-year in

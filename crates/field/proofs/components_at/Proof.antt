@@ -1,4 +1,4 @@
--- `field::field_at` meets its contract: each return is a law of proofs/Answers.antt. Assumes nothing.
+-- `field::components_at` meets its contract: each return is a law of proofs/Answers.antt. Assumes nothing.
 use mathlib.Core.Path.{sym, ap, _∙_}
 use borrow.Author.Tests.{not-true, not-false}
 use mir.Syntax.{w32}
@@ -7,8 +7,8 @@ use Rattle.models.specs.Epochs.{knownEpoch}
 use Rattle.synthesis.specs.Sum.{said}
 use Rattle.field.proofs.Answers.{unknown-set, lists-refused, strengths-shown, year-back}
 use borrow.Author.Needs.{needs}
-use Rattle.field.proofs.field_at.Statement.{statement}
-use Rattle.field.proofs.field_at.Tie as tie
+use Rattle.field.proofs.components_at.Statement.{statement}
+use Rattle.field.proofs.components_at.Tie as tie
 
 known-epoch-requires : tie.Need-known-epoch-requires
 known-epoch-requires c κs = search needs
@@ -61,8 +61,8 @@ returns-3 c =
     strengths-shown _ _ (s .pre) (sym (e .before .known-epoch .ensures ∙ ap knownEpoch (toZ-ofZ w32 (s .args .epoch-year) (s .fits .epoch-year))) ∙ not-false _ (e .if1 .left)) _ (p .geodetic-to-geocentric .ensures) _ (q .radius-ratio .ensures) _ (sym (ap said (v .v .given .1)) ∙ m .sum .ensures .0) _ (t .turn .ensures) _
     (rw (toZ-ofZ w32 (s .args .epoch-year) (s .fits .epoch-year), year-back (s .args .e .«epoch_year») (s .pre .known)) at (c .shown .ensures))
 
-pub field-at-spec : {M : Type 1} → statement M
-field-at-spec =
+pub components-at-spec : {M : Type 1} → statement M
+components-at-spec =
     tie.close
     (tie.spec
     known-epoch-requires
