@@ -50,12 +50,12 @@ module _ (r : ErrorRecord) (zs : List ErrorRecord) (year : ℤ) where
   -- a record of the year ends the search
   pub first-match : sameYear year (r .«epoch_year») ≡ true → listedErrors (r ∷ zs) year ≡ figuresSays (r .figures)
   unfolding listedErrors
-  first-match e = rw e
+  first-match e = rw e refl
 
   -- another is passed over
   pub passed-over : sameYear year (r .«epoch_year») ≡ false → listedErrors (r ∷ zs) year ≡ listedErrors zs year
   unfolding listedErrors
-  passed-over e = rw e
+  passed-over e = rw e refl
 
 abbrev pub next : {ys : List ErrorRecord} {year : ℤ} (i : ℕ) (r : ErrorRecord) (zs : List ErrorRecord) → drop i ys ≡ r ∷ zs → listedErrors (r ∷ zs) year ≡ listedErrors ys year → sameYear year (r .«epoch_year») ≡ false → Turn ys year
 next {ys} {year} i r zs e s n = record { i = suc i; zs = zs; rest = tail-at i ys e; still = sym (passed-over r zs year n) ∙ s }

@@ -1,4 +1,5 @@
 -- `field::with_figures` meets its contract. Assumes nothing.
+use mathlib.Core.Path.{refl}
 use borrow.Author.Needs.{needs}
 use Rattle.field.proofs.with_figures.Statement.{statement}
 use Rattle.field.proofs.with_figures.Tie as tie
@@ -16,7 +17,7 @@ enum-known-figures-2 : tie.Need-enum-known-figures-2
 enum-known-figures-2 c = search needs
 
 returns : tie.Need-returns
-returns c = rw (c .before .c .given .1)
+returns c = rw (c .before .c .given .1) refl
 
 returns-2 : tie.Need-returns-2
 returns-2 c =

@@ -8,9 +8,12 @@ use Rattle.ffi.specs.Told.{bare}
 use Rattle.ffi.proofs.listed.told_uncertainty.Statement.{statement}
 use Rattle.ffi.proofs.listed.told_uncertainty.Tie as tie
 
--- what is said of the three components, with the figures
+-- the record that is made, and what is said of it with the figures
+made : (c : tie.After-bare-record) → c .bare-record .result ≡ bare (c .before .args .x) (c .before .args .y) (c .before .args .z)
+made c = c .bare-record .ensures
+
 says : (c : tie.After-uncertainty-with) → strengthSaid (c .uncertainty-with .result) ≡ uncertaintyWith (errorSaid (c .before .before .args .figures)) (bare (c .before .before .args .x) (c .before .before .args .y) (c .before .before .args .z))
-says c = c .uncertainty-with .ensures ∙ ap (λ (v : GeomagneticField). uncertaintyWith (errorSaid (c .before .before .args .figures)) v) (c .before .bare-record .ensures)
+says c = c .uncertainty-with .ensures ∙ ap (λ (v : GeomagneticField). uncertaintyWith (errorSaid (c .before .before .args .figures)) v) (made (c .before))
 
 bare-record-requires : tie.Need-bare-record-requires
 bare-record-requires c κs = search needs
