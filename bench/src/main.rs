@@ -21,6 +21,8 @@ const CASES: usize = 1000;
 /// A file takes longer than any other case.
 const FILES: usize = 100;
 const ROUNDS: usize = 301;
+/// A line of the cache has 64 bytes, and a stack frame begins at a multiple of 16.
+const POSITIONS: usize = 4;
 
 /// An answer as bits. No case is refused; a refusal would be its number, and no bits.
 type Bits = Result<[u32; 3], u32>;
@@ -171,13 +173,40 @@ fn time<T, A>(cases: &[T], call: impl Fn(&T) -> Result<A, u32>) -> f64 {
     began.elapsed().as_nanos() as f64 / cases.len() as f64
 }
 
-fn median(mut times: Vec<f64>) -> f64 {
+/// The time of a call with N bytes more of the stack in use.
+#[inline(never)]
+fn with_room<const N: usize>(call: &dyn Fn() -> f64) -> f64 {
+    let room = black_box([0u8; N]);
+    let time = call();
+    black_box(&room);
+    time
+}
+
+/// The same, at one of the positions that a frame can have in a line of the cache. Which it is moves a call
+/// by some percent, and a program's own luck decides it: so all are timed.
+fn at(position: usize, call: &dyn Fn() -> f64) -> f64 {
+    match position {
+        0 => with_room::<16>(call),
+        1 => with_room::<32>(call),
+        2 => with_room::<48>(call),
+        _ => with_room::<64>(call),
+    }
+}
+
+fn median(times: &mut [f64]) -> f64 {
     times.sort_by(f64::total_cmp);
     times[times.len() / 2]
 }
 
+/// The mean of the medians at each position.
+fn overall(mut times: [Vec<f64>; POSITIONS]) -> f64 {
+    let medians = times.iter_mut().filter(|t| !t.is_empty());
+    let medians: Vec<f64> = medians.map(|t| median(t)).collect();
+    medians.iter().sum::<f64>() / medians.len() as f64
+}
+
 /// Compares the bits, then times both sides in turn, the first of the two changing from round to
-/// round. Gives whether the bits agree.
+/// round, and the position of the stack every second round. Gives whether the bits agree.
 fn row<T, A: PartialEq>(
     name: &str,
     rounds: usize,
@@ -189,17 +218,15 @@ fn row<T, A: PartialEq>(
         .iter()
         .filter(|case| ours(case).is_err() || ours(case) != rust(case))
         .count();
-    let (mut our_times, mut rust_times) = (Vec::new(), Vec::new());
+    let sides: [&dyn Fn() -> f64; 2] = [&|| time(cases, &ours), &|| time(cases, &rust)];
+    let mut times = [(); 2].map(|()| [(); POSITIONS].map(|()| Vec::new()));
     for round in 0..rounds {
-        if round % 2 == 0 {
-            our_times.push(time(cases, &ours));
-            rust_times.push(time(cases, &rust));
-        } else {
-            rust_times.push(time(cases, &rust));
-            our_times.push(time(cases, &ours));
+        let position = round / 2 % POSITIONS;
+        for side in [round % 2, 1 - round % 2] {
+            times[side][position].push(at(position, sides[side]));
         }
     }
-    let (ours, rust) = (median(our_times), median(rust_times));
+    let [ours, rust] = times.map(overall);
     let ratio = ours / rust;
     println!(
         "{name:<20} {ours:>9.1} {rust:>9.1} {ratio:>7.3}   {differing} of {} differ",

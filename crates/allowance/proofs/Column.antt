@@ -7,8 +7,7 @@ use native.Mathlib.Numerals.{add-one}
 use native.Mathlib.Omega.{arith}
 use lib.Ieee.{Float, binary32, ofBits}
 use Rattle.exact.specs.Tests.{abs}
-use Rattle.tables.specs.Degree.{place}
-use Rattle.tables.specs.Tables.{kAt}
+use Rattle.tables.specs.Rule.{kOf}
 use Rattle.sums.specs.Recurrence.{Input, legendre, step}
 use Rattle.sums.specs.Paths.{placed}
 use Rattle.synthesis.specs.Sum.{Lent, inputs}
@@ -31,7 +30,7 @@ start i m = record { diagonal = λ h. rw (abs-zero, abs-one); column = λ h. let
 
 -- one degree more, at order o
 pub next : (a : Lent) (n m o : ℕ) (c s k : Float) (prev1 prev2 r : PDp) → (o ≤ n + 1) × (o ≤ m) × ((o ≡ n + 1) ⊎ (o ≡ m))
-    → c ≡ abs (a .cos-theta) → s ≡ abs (a .sin-theta) → k ≡ abs (kAt (place (n + 1) o))
+    → c ≡ abs (a .cos-theta) → s ≡ abs (a .sin-theta) → k ≡ abs (kOf (n + 1) o)
     → r ≡ pdp (step bounds c s k (n + 1) o (qp prev1) (qp prev1) (qp prev2)) → Way (inputs bounds a) n m prev1 prev2
     → Way (inputs bounds a) (n + 1) m r prev1
 unfolding inputs placed bounds

@@ -21,11 +21,10 @@ pub fn quotient_of(j: usize, cos_theta: f32) -> f32
     ensures { λ r. ⌜ ((a : Lent) → «cos_theta» ≡ a .cos-theta → r ≡ quotient bounds (inputs bounds a) (j + 1)) ⌝ }
 {
     let c = float32::abs(cos_theta);
-    let ks = tables::k_table();
     let mut q_prev2 = 1.0f32;
     let mut q_prev1 = 1.0f32;
     for i in 0..j {
-        let k = float32::abs(ks[legendre_index(i + 2, 1)]);
+        let k = float32::abs(tables::legendre_k((i + 1) as f32, 1.0));
         let q = c * q_prev1 + k * q_prev2;
         q_prev2 = q_prev1;
         q_prev1 = q;

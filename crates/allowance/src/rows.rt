@@ -72,12 +72,11 @@ pub fn p_dp(n: usize, m: usize, cos_theta: f32, sin_theta: f32) -> PDp
 {
     let c = float32::abs(cos_theta);
     let s = float32::abs(sin_theta);
-    let ks = tables::k_table();
     let mut prev2 = PDp { p: 0.0, dp: 0.0 };
     let mut prev1 = PDp { p: 1.0, dp: 0.0 };
     for j in 0..n {
         let o = order_at(j + 1, m);
-        let k = float32::abs(ks[legendre_index(j + 1, o)]);
+        let k = float32::abs(tables::legendre_k(j as f32, o as f32));
         let r = gauss_norm_p_dp(j + 1, o, k, c, s, prev1, prev2);
         prev2 = prev1;
         prev1 = r;

@@ -9,3 +9,4 @@ pub mod Ranks
 pub mod Sizes
 pub mod Circle
 pub mod Range
+pub mod Wholes

@@ -2,7 +2,8 @@
 -- with every number replaced by its size and every minus by plus.
 use Prim.Native.Nat.{ℕ, _+_, _*_, _/_, _^_}
 use mathlib.Core.Bool.{true, false}
-use lib.Ieee.{Float, nan, inf, fin, up, down}
+use lib.IntN.{pos}
+use lib.Ieee.{Float, nan, inf, fin, binary32, up, down, ofInt}
 
 pub record Exact : Type 0 where
   pub plus : ℕ
@@ -36,6 +37,10 @@ own nan = record { plus = 0; minus = 0; over = 1 }
 own (inf s) = record { plus = 0; minus = 0; over = 1 }
 own (fin false m e) = record { plus = m * up e; minus = 0; over = down e }
 own (fin true m e) = record { plus = 0; minus = m * up e; over = down e }
+
+-- a whole number as an f32
+unfoldable pub lit : ℕ → Float
+lit n = ofInt binary32 (pos n)
 
 -- a finite float's size in units of 2 ^ -149, the smallest f32
 abbrev pub unitsOf : Float → ℕ

@@ -20,7 +20,8 @@ use Rattle.exact.specs.Tests.{capped}
 use Rattle.models.specs.declared.epochs.EpochOffset.{EpochOffset}
 use Rattle.geocentric.proofs.Laws.{latitude-circle}
 use Rattle.tables.specs.Degree.{N-MAX, place}
-use Rattle.tables.specs.Tables.{kAt, kBits, schmidtAt, schmidtBits}
+use Rattle.tables.specs.Tables.{schmidtAt, schmidtBits}
+use Rattle.tables.specs.Rule.{kOf}
 use Rattle.sums.specs.Arithmetic.{Arithmetic, plusS, rounded, sizes, timesS}
 use Rattle.sums.proofs.Near.{accA, eastA}
 use Rattle.sums.proofs.Terms.{angS, legS, powS}
@@ -135,7 +136,7 @@ top =
       g = λ n m. c;
       h = λ n m. c;
       S = λ n m. schmidtAt (place n m);
-      K = λ n m. kAt (place n m);
+      K = kOf;
     }
 
 -- the units of its numbers
@@ -195,7 +196,7 @@ alike-top a w =
 -- ---- what the sums come to there, computed
 within-top : (leb (x-sum ceilings top N-MAX) (2 ^ 70) ≡ true) × (leb (y-sum ceilings top N-MAX) (15 * 2 ^ 65) ≡ true) × (leb (z-sum ceilings top N-MAX) (2 ^ 70) ≡ true)
     × (leb (pole-x ceilings top POLE-ORDERS N-MAX) (2 ^ 70) ≡ true) × (leb (pole-y ceilings top N-MAX) (2 ^ 78) ≡ true) × (leb (pole-z ceilings top POLE-ORDERS N-MAX) (2 ^ 70) ≡ true)
-unfolding ceilings upward invE own ofBits ofInt round lit schmidtAt schmidtBits kAt kBits angle pole-angle step legendre total gc-hs gs-hc psn dpsn power x-row y-row z-row x-sum y-sum z-sum quotient pole-gc pole-gs pole-x-row pole-z-row pole-x pole-y pole-z top
+unfolding ceilings upward invE own ofBits ofInt round lit schmidtAt schmidtBits kOf angle pole-angle step legendre total gc-hs gs-hc psn dpsn power x-row y-row z-row x-sum y-sum z-sum quotient pole-gc pole-gs pole-x-row pole-z-row pole-x pole-y pole-z top
 within-top = (refl, refl, refl, refl, refl, refl)
 
 at-most : (m n : ℕ) → leb m n ≡ true → m ≤ n

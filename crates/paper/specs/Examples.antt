@@ -15,7 +15,8 @@ use Rattle.models.specs.Epochs.{dayExists, epochYear, knownEpoch, offsetOf, epo
 use Rattle.models.specs.Records.{figureOk, figuresOk, figuresSays, listedErrors}
 use Rattle.models.specs.Errors.{errors2025, errorSays}
 use Rattle.tables.specs.Degree.{N-COEFF, place}
-use Rattle.tables.specs.Tables.{schmidtAt, schmidtBits, kAt, kBits}
+use Rattle.tables.specs.Tables.{schmidtAt, schmidtBits}
+use Rattle.tables.specs.Rule.{kOf}
 use Rattle.tables.specs.Rule.{misses}
 use Rattle.tables.specs.Laws.{mended}
 use Rattle.synthesis.specs.declared.Xyz.{Xyz}
@@ -151,7 +152,7 @@ abbrev Met : Example → Type 0
 Met e = e .said ≡ e .asked-for
 
 first-said : sumSays (lent nought one nought one one nought dipole zeros zeros zeros) ≡ answered (record { x = ofBits binary32 0xc6ea6000; y = nought; z = nought })
-unfolding valueOf sumSays numbersVerdict listsVerdict entriesVerdict circle ratio-ok offset-ok capped small-sine inputs placed schmidtAt schmidtBits kAt kBits rounded lit angle pole-angle step legendre total gc-hs gs-hc psn dpsn power x-row y-row z-row x-sum y-sum z-sum quotient pole-gc pole-gs pole-x-row pole-z-row pole-x pole-y pole-z ofBits ofInt round sum add sub mul neg div lt le eq
+unfolding valueOf sumSays numbersVerdict listsVerdict entriesVerdict circle ratio-ok offset-ok capped small-sine inputs placed schmidtAt schmidtBits kOf rounded lit angle pole-angle step legendre total gc-hs gs-hc psn dpsn power x-row y-row z-row x-sum y-sum z-sum quotient pole-gc pole-gs pole-x-row pole-z-row pole-x pole-y pole-z ofBits ofInt round sum add sub mul neg div lt le eq
 first-said = refl
 
 first-met : Met first
@@ -159,7 +160,7 @@ unfolding first ofBits toBits
 first-met = ap (row components) first-said
 
 second-said : sumSays (lent one nought nought one one nought dipole zeros zeros zeros) ≡ answered (record { x = nought; y = nought; z = ofBits binary32 0xc76a6000 })
-unfolding valueOf sumSays numbersVerdict listsVerdict entriesVerdict circle ratio-ok offset-ok capped small-sine inputs placed schmidtAt schmidtBits kAt kBits rounded lit angle pole-angle step legendre total gc-hs gs-hc psn dpsn power x-row y-row z-row x-sum y-sum z-sum quotient pole-gc pole-gs pole-x-row pole-z-row pole-x pole-y pole-z ofBits ofInt round sum add sub mul neg div lt le eq
+unfolding valueOf sumSays numbersVerdict listsVerdict entriesVerdict circle ratio-ok offset-ok capped small-sine inputs placed schmidtAt schmidtBits kOf rounded lit angle pole-angle step legendre total gc-hs gs-hc psn dpsn power x-row y-row z-row x-sum y-sum z-sum quotient pole-gc pole-gs pole-x-row pole-z-row pole-x pole-y pole-z ofBits ofInt round sum add sub mul neg div lt le eq
 second-said = refl
 
 second-met : Met second
@@ -167,7 +168,7 @@ unfolding second ofBits toBits
 second-met = ap (row components) second-said
 
 third-said : sumSays (lent nought one nought one one nought zeros sectoral zeros zeros) ≡ answered (record { x = nought; y = ofBits binary32 0xc58ca000; z = nought })
-unfolding valueOf sumSays numbersVerdict listsVerdict entriesVerdict circle ratio-ok offset-ok capped small-sine inputs placed schmidtAt schmidtBits kAt kBits rounded lit angle pole-angle step legendre total gc-hs gs-hc psn dpsn power x-row y-row z-row x-sum y-sum z-sum quotient pole-gc pole-gs pole-x-row pole-z-row pole-x pole-y pole-z ofBits ofInt round sum add sub mul neg div lt le eq
+unfolding valueOf sumSays numbersVerdict listsVerdict entriesVerdict circle ratio-ok offset-ok capped small-sine inputs placed schmidtAt schmidtBits kOf rounded lit angle pole-angle step legendre total gc-hs gs-hc psn dpsn power x-row y-row z-row x-sum y-sum z-sum quotient pole-gc pole-gs pole-x-row pole-z-row pole-x pole-y pole-z ofBits ofInt round sum add sub mul neg div lt le eq
 third-said = refl
 
 third-met : Met third

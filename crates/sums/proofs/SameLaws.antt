@@ -1,16 +1,16 @@
 -- Every f32 operation keeps numbers the same that are the same but for a zero's sign.
-use mathlib.Core.Path.{_≡_, refl, ap, _∙_}
+use mathlib.Core.Path.{_≡_, refl, ap}
 use Prim.Native.Nat.{ℕ, zero, suc, _*_, _<_}
 use native.Mathlib.Nat.{mul-pos, zero-lt-suc, zero-add, add-zero, sub-zero, mul-zero}
 use native.Mathlib.Omega.{arith}
 use mathlib.Core.Bool.{Bool, true, false}
 use lib.Dec.{T, eqb·suc-zero}
 use borrow.Author.Tests.{lt-ltb, le-ltb}
-use lib.IntN.{pos}
 use lib.Ieee.{Float, nan, inf, fin, binary32, up, down, round, sum, add, sub, mul, neg, div}
 use lib.Ieee.Fits.{up-pos, down-pos}
-use lib.Ieee.Scale.{finite, round-same}
+use lib.Ieee.Scale.{finite}
 use Rattle.exact.specs.Tests.{abs}
+use Rattle.exact.proofs.Wholes.{round-null}
 use Rattle.sums.specs.Arithmetic.{rounded}
 use Rattle.sums.specs.Same.{Same, null, same, zeros}
 use Rattle.sums.proofs.Related.{Related}
@@ -24,12 +24,7 @@ same-trans (zeros s t) (zeros u v) = zeros s v
 pub by-same : {x y x' y' : Float} → x ≡ x' → y ≡ y' → Same x' y' → Same x y
 by-same p q h = rw (p, q) h
 
--- a zero rounds to a zero
-pub round-null : (s : Bool) (a c : ℕ) → a ≡ 0 → 0 < c → round binary32 s a c ≡ null s
-unfolding round
-round-null s a c e C = ap (λ (z : ℕ). round binary32 s z c) e ∙ round-same binary32 s 0 c 0 1 C (zero-lt-suc 0) (omega arith)
-
--- and to the same one but for its sign
+-- nought rounds to the same zero but for its sign
 nulls : (s t : Bool) (a c : ℕ) → a ≡ 0 → 0 < c → Same (round binary32 s a c) (round binary32 t a c)
 nulls s t a c e C = by-same (round-null s a c e C) (round-null t a c e C) (zeros s t)
 

@@ -1,4 +1,4 @@
--- The stored tables are of the sizes that the laws of nearness ask for, by one computed test for each.
+-- The factors are of the sizes that the laws of nearness ask for: Schmidt's table by one computed test, K at every degree.
 use mathlib.Core.List.{List, [], _∷_}
 use Prim.Native.Nat.{ℕ, zero, suc, _+_, _*_, zero-le}
 use mathlib.Core.Bool.{Bool, true, _&&_}
@@ -11,7 +11,9 @@ use Rattle.exact.specs.Exact.{Exact, own}
 use Rattle.exact.proofs.Near.{near-own}
 use Rattle.exact.proofs.Ranks.{Leaf, Nr, leafA}
 use Rattle.tables.specs.Degree.{place}
-use Rattle.tables.specs.Tables.{kAt, kBits, schmidtAt, schmidtBits}
+use Rattle.tables.specs.Tables.{schmidtAt, schmidtBits}
+use Rattle.tables.specs.Rule.{kOf}
+use Rattle.tables.proofs.Factors.{k-small}
 use Rattle.sums.specs.Arithmetic.{Arithmetic}
 use Rattle.sums.proofs.Keeps.{Keeps}
 
@@ -43,10 +45,6 @@ schmidt-ok : T (all-sized 2048 schmidtBits)
 unfolding all-sized schmidtBits
 schmidt-ok = tt
 
-ks-ok : T (all-sized 1 kBits)
-unfolding all-sized kBits
-ks-ok = tt
-
 zero-ok : (B : ℕ) → T (sized B 0)
 unfolding sized
 zero-ok B = le→leb 0 (B * 1) zero-le
@@ -56,6 +54,5 @@ module _ {o : Arithmetic Float} {o' : Arithmetic Exact} (kept : Keeps o o') (n m
   unfolding schmidtAt
   schmidt-near = kept .num (sized-leaf 2048 (getD schmidtBits (place n m) 0) (sized-at 2048 schmidtBits (place n m) (zero-ok 2048) schmidt-ok))
 
-  pub k-near : Nr (leafA 1) (o .num (kAt (place n m))) (o' .num (kAt (place n m)))
-  unfolding kAt
-  k-near = kept .num (sized-leaf 1 (getD kBits (place n m) 0) (sized-at 1 kBits (place n m) (zero-ok 1) ks-ok))
+  pub k-near : Nr (leafA 1) (o .num (kOf n m)) (o' .num (kOf n m))
+  k-near = let h = k-small n m in kept .num (near-own (h .0) (h .1))

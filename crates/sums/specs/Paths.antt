@@ -1,4 +1,4 @@
--- What the sums read of lent lists and of the stored tables, and the two paths. Definitions only.
+-- What the sums read of lent lists and of the two factors, and the two paths. Definitions only.
 use mathlib.Core.Bool.{Bool, false, cond}
 use mathlib.Core.List.{List}
 use Prim.Native.Nat.{ℕ, _-_}
@@ -7,7 +7,8 @@ use lib.ListN.{getD}
 use lib.Ieee.{Float, fin, binary32, ofBits, lt}
 use Rattle.exact.specs.Tests.{abs}
 use Rattle.tables.specs.Degree.{place}
-use Rattle.tables.specs.Tables.{schmidtAt, kAt}
+use Rattle.tables.specs.Tables.{schmidtAt}
+use Rattle.tables.specs.Rule.{kOf}
 use Rattle.sums.specs.Arithmetic.{Arithmetic}
 use Rattle.sums.specs.Recurrence.{Input, coefficient, pole-x, pole-y, pole-z, x-sum, y-sum, z-sum}
 
@@ -23,7 +24,7 @@ at l n m = getD l (place n m - 1) nought
 abbrev pub dated : {A : Type 0} → Arithmetic A → List Float → List Float → Float → ℕ → ℕ → A
 dated o main rate t n m = coefficient o (o .num (at main n m)) (o .num (at rate n m)) (o .num t)
 
--- a place, the coefficients at the date by degree and order, and the stored tables
+-- a place, the coefficients at the date by degree and order, Schmidt's table and the factors K
 unfoldable pub placed : {A : Type 0} → Float → Float → Float → Float → Float → (ℕ → ℕ → A) → (ℕ → ℕ → A) → Input A
 placed cos-theta sin-theta sin-lambda cos-lambda ratio g h =
     record {
@@ -35,7 +36,7 @@ placed cos-theta sin-theta sin-lambda cos-lambda ratio g h =
       g = g;
       h = h;
       S = λ n m. schmidtAt (place n m);
-      K = λ n m. kAt (place n m);
+      K = kOf;
     }
 
 -- ---- the two paths

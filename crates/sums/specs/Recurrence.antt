@@ -2,12 +2,12 @@
 -- Definitions only. N is the highest degree; M is how many orders the near-pole path runs over.
 use Prim.Native.Nat.{ℕ, zero, suc, _-_}
 use mathlib.Core.Bool.{_&&_, cond}
-use lib.IntN.{pos}
 use lib.Dec.{eqb, ltb}
-use lib.Ieee.{Float, binary32, ofInt}
+use lib.Ieee.{Float}
 use Rattle.sums.specs.Arithmetic.{Arithmetic, Pair, pair}
+unfoldable pub use Rattle.exact.specs.Exact.{lit}
 
--- what the sums read: the colatitude's and the longitude's pair, a / r, the coefficients at the date by degree and order, and the two tables.
+-- what the sums read: the colatitude's and the longitude's pair, a / r, the coefficients at the date by degree and order, and the factors S and K.
 -- The coefficients are numbers of the arithmetic: how they are made of what is lent, the recurrences do not know
 pub record Input (A : Type 0) : Type 0 where
   pub cos-theta : Float
@@ -19,10 +19,6 @@ pub record Input (A : Type 0) : Type 0 where
   pub h : ℕ → ℕ → A
   pub S : ℕ → ℕ → Float
   pub K : ℕ → ℕ → Float
-
--- a whole number as an f32
-unfoldable pub lit : ℕ → Float
-lit n = ofInt binary32 (pos n)
 
 -- ---- one step each, on values
 module _ {A : Type 0} (o : Arithmetic A) where

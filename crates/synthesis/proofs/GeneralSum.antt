@@ -10,7 +10,7 @@ use lib.Dec.{ltb}
 use mathlib.Core.Bool.{cond}
 use lib.ListN.{getD, length, replicate, getD-replicate}
 use lib.Ieee.{Float, nan, binary32, mul, ofInt, ofBits, round}
-use Rattle.tables.specs.Tables.{schmidtAt, kAt, kTable, schmidtTable}
+use Rattle.tables.specs.Tables.{schmidtAt, schmidtTable}
 use Rattle.tables.specs.Degree.{M-LEN, N-COEFF, N-LEGENDRE, N-MAX, place}
 use Rattle.synthesis.specs.declared.rows.Four.{Four}
 use Rattle.synthesis.specs.declared.rows.PDp.{PDp}
@@ -21,14 +21,16 @@ use Rattle.synthesis.specs.declared.lanes.Starts.{Starts}
 use Rattle.sums.specs.Recurrence.{Input, coefficient, lit, power, total, x-sum, y-sum, z-sum}
 use Rattle.synthesis.specs.Sum.{Lent, inputs}
 use Rattle.sums.specs.Paths.{at, nought, placed}
-use Rattle.synthesis.specs.Code.{Apart, Given, Lanes, Row, Sized, W-LEN, Weighed, addDegree, anglesOf, atDate, cellXyz, cells, cosAt, first, general, lane, laneStep, laneSums, laneTerms, laneTotal, loweredAt, pdp, put, put4, put4Terms, putTerm, rotated, rowSums, sinAt, start, startAt, startsOf, termAt, termOf, totals}
+use Rattle.synthesis.specs.Code.{Apart, Factors, Given, Lanes, Row, Sized, W-LEN, Weighed, addDegree, anglesOf, atDate, cellXyz, cells, cosAt, first, general, lane, laneStep, laneSums, laneTerms, laneTotal, loweredAt, pdp, put, put4, put4Terms, putTerm, rotated, rowSums, sinAt, start, startAt, startsOf, termAt, termOf, totals}
 use Rattle.sums.specs.Arithmetic.{Pair, pair, rounded}
 use Rattle.synthesis.proofs.LaneLaws.{Plain, lane-idle, lane-next, lane-sums}
 use Rattle.sums.proofs.Step.{less-or, same-or}
 use Rattle.synthesis.proofs.RowsHold.{apart-rotate, put-other, put-row, put-same, put-sized, term-other, term-same, term-sized}
 use Rattle.synthesis.proofs.Filled.{date-get, first-get}
 use Rattle.synthesis.proofs.PlaceSizes.{least, most}
-use Rattle.tables.specs.Laws.{k-entry, schmidt-entry}
+use Rattle.tables.specs.Laws.{schmidt-entry}
+use Rattle.tables.specs.Rule.{kOf}
+use Rattle.synthesis.proofs.FactorsHold.{factors-start, factors-turn}
 
 -- ---- 0 and 1 as the code writes them
 pub lit-zero : ofBits binary32 0 ≡ lit 0
@@ -57,10 +59,7 @@ module _ (a : Lent) (n m j : ℕ) (z : 0 < n) (hn : n < M-LEN) (hm : m ≤ n) (e
   unfolding inputs placed rounded
   h-read e e' = rw (at-read (a .h) n m j e z hn hm ej, at-read (a .h-dot) n m j e' z hn hm ej)
 
--- ---- the tables by place
-pub k-place : (ks : List Float) (j n m : ℕ) → ks ≡ kTable → (j ≡ place n m) × (j < N-LEGENDRE) → getD ks j nan ≡ kAt (place n m)
-k-place ks j n m e h = rw (e, k-entry j (h .1), h .0)
-
+-- ---- Schmidt's table by place
 pub s-place : (ss : List Float) (j n m : ℕ) → ss ≡ schmidtTable → (j ≡ place n m) × (j < N-LEGENDRE) → getD ss j nan ≡ schmidtAt (place n m)
 s-place ss j n m e h = rw (e, schmidt-entry j (h .1), h .0)
 
@@ -72,14 +71,14 @@ pub record Long (a : Lent) : Type 0 where
   pub h-dot : length (a .h-dot) ≡ N-COEFF
 
 -- what is read at each order, from what is lent
-pub given : (a : Lent) (ks ss gt ht : List Float) (t : Angles)
-    → Long a → ks ≡ kTable → ss ≡ schmidtTable → gt ≡ atDate (a .g) (a .g-dot) (a .offset) → ht ≡ atDate (a .h) (a .h-dot) (a .offset)
+pub given : (a : Lent) (ss gt ht : List Float) (t : Angles)
+    → Long a → ss ≡ schmidtTable → gt ≡ atDate (a .g) (a .g-dot) (a .offset) → ht ≡ atDate (a .h) (a .h-dot) (a .offset)
     → t ≡ anglesOf (a .sin-lambda) (a .cos-lambda)
-    → Given (inputs rounded a) ks ss gt ht (first lit M-LEN) (t .sin) (t .cos)
+    → Given (inputs rounded a) ss gt ht (first lit M-LEN) (t .sin) (t .cos)
 unfolding inputs placed anglesOf
-given a ks ss gt ht t L ek es eg eh et =
+given a ss gt ht t L es eg eh et =
     record {
-      K = λ n m h. rw ek (k-entry (place n m) h);
+      K = refl;
       S = λ n m hn hm. rw es (schmidt-entry (place n m) (omega (arith, most n hn)));
       g = λ n m z hn hm. date-get (a .g) (a .g-dot) (a .offset) gt (place n m - 1) eg (omega (arith, most n hn, least n z)) ∙ g-read a n m (place n m - 1) z hn hm refl (L .g) (L .g-dot);
       h = λ n m z hn hm. date-get (a .h) (a .h-dot) (a .offset) ht (place n m - 1) eh (omega (arith, most n hn, least n z)) ∙ h-read a n m (place n m - 1) z hn hm refl (L .h) (L .h-dot);
@@ -135,15 +134,15 @@ row-next i n m m' p d q t r v hm em er ev w =
 alike : (m n j : ℕ) → j + n ≡ m + N-MAX → ltb j N-MAX ≡ ltb m n
 alike m n j e = ⊎-elim (λ (h : m < n). lt-ltb j N-MAX (omega arith) ∙ sym (lt-ltb m n h)) (λ (h : n ≤ m). le-ltb j N-MAX (omega arith) ∙ sym (le-ltb m n h)) (less-or m n)
 
-module _ (i : Input Float) (ks cw sw kw ss gt ht os sin cos : List Float) (G : Given i ks ss gt ht os sin cos) (W : Weighed i cw sw kw) (n : ℕ) (z : 0 < n) (hn : n < M-LEN) where
-  -- k is the place of lane m in the table, j that in the lists of weights
-  lane-is : (m l k j : ℕ) (p d : List (List Float)) (q : Places) (r : PDp) → m < N-MAX → 4 * (m / 4) ≤ n → k ≡ place n m → k < N-LEGENDRE → j + n ≡ m + N-MAX → j < W-LEN
-      → r ≡ loweredAt m k j ks cw sw kw p d q → Lanes i n l p d q → r ≡ pdp (lane i n m)
+module _ (i : Input Float) (cw sw ss gt ht os sin cos : List Float) (n : ℕ) (G : Given i ss gt ht os sin cos) (W : Weighed i cw sw) (z : 0 < n) (hn : n < M-LEN) where
+  -- j is the place of lane m in the lists of weights
+  lane-is : (m l j : ℕ) (ks : List Float) (p d : List (List Float)) (q : Places) (r : PDp) → m < N-MAX → 4 * (m / 4) ≤ n → j + n ≡ m + N-MAX → j < W-LEN
+      → l ≤ m → r ≡ loweredAt m j ks cw sw p d q → Factors i n l ks → Lanes i n l p d q → r ≡ pdp (lane i n m)
   unfolding laneStep
-  lane-is m l k j p d q r hm ht ek hk ej hj er w =
-      let K : getD ks k nan ≡ i .K n m = rw ek (G .K n m (rw ek at hk)) in
-      let e : loweredAt m k j ks cw sw kw p d q ≡ pdp (laneStep i n m (cells p d (q .prev1) m) (cells p d (q .prev2) m)) =
-      rw (K, W .cos-theta j hj, W .sin-theta j hj, W .k j hj, alike m n j ej) refl in
+  lane-is m l j ks p d q r hm ht ej hj hl er f w =
+      let K : getD ks m nan ≡ i .K n m = f .rest m hm hl in
+      let e : loweredAt m j ks cw sw p d q ≡ pdp (laneStep i n m (cells p d (q .prev1) m) (cells p d (q .prev2) m)) =
+      rw (K, W .cos-theta j hj, W .sin-theta j hj, alike m n j ej) refl in
       let g = ap₂ (λ (x y : Pair Float). pdp (laneStep i n m x y)) (w .prev1 m hm) (w .prev2 m hm) in
       let f : lane i n m ≡ laneStep i n m (lane i (n - 1) m) (lane i (n - 2) m) = lane-next i n m z ∙ rw (le-ltb n (4 * (m / 4)) ht) refl in
       er ∙ e ∙ g ∙ ap pdp (sym f)
@@ -166,22 +165,23 @@ module _ (i : Input Float) (ks cw sw kw ss gt ht os sin cos : List Float) (G : G
   lane-done m m' k p d q t r h em ek er w = row-next i n m m' p d q t r (termAt m k r ss gt ht os sin cos) h em er (term-is m k r h ek er) w
 
   -- all four read the rows as they are before the first store
-  pub next-four : (m k j : ℕ) (p d : List (List Float)) (q : Places) (t : List (List Float)) (r : Four) → 4 * (m / 4) ≡ m → m ≤ n → m + 3 < N-MAX → k ≡ place n m → k + 3 < N-LEGENDRE → j + n ≡ m + N-MAX
-      → r .r0 ≡ loweredAt m k j ks cw sw kw p d q
-      → r .r1 ≡ loweredAt (m + 1) (k + 1) (j + 1) ks cw sw kw p d q
-      → r .r2 ≡ loweredAt (m + 2) (k + 2) (j + 2) ks cw sw kw p d q
-      → r .r3 ≡ loweredAt (m + 3) (k + 3) (j + 3) ks cw sw kw p d q
+  pub next-four : (m k j : ℕ) (ks : List Float) (p d : List (List Float)) (q : Places) (t : List (List Float)) (r : Four) → 4 * (m / 4) ≡ m → m ≤ n → m + 3 < N-MAX → k ≡ place n m → j + n ≡ m + N-MAX
+      → r .r0 ≡ loweredAt m j ks cw sw p d q
+      → r .r1 ≡ loweredAt (m + 1) (j + 1) ks cw sw p d q
+      → r .r2 ≡ loweredAt (m + 2) (j + 2) ks cw sw p d q
+      → r .r3 ≡ loweredAt (m + 3) (j + 3) ks cw sw p d q
+      → Factors i n m ks
       → Row i n m p d q t
       → Row i n (m + 4) (put4 p (q .cur) m (r .r0 .p) (r .r1 .p) (r .r2 .p) (r .r3 .p)) (put4 d (q .cur) m (r .r0 .dp) (r .r1 .dp) (r .r2 .dp) (r .r3 .dp)) q
       (put4Terms t m k r ss gt ht os sin cos)
-  next-four m k j p d q t r f hm h e hk ej s0 s1 s2 s3 w =
+  next-four m k j ks p d q t r f hm h e ej s0 s1 s2 s3 F w =
       let k1 : k + 1 ≡ place n (m + 1) = omega arith in
       let k2 : k + 2 ≡ place n (m + 2) = omega arith in
       let k3 : k + 3 ≡ place n (m + 3) = omega arith in
-      lane-done (m + 3) (m + 4) (k + 3) _ _ q _ (r .r3) (omega arith) (omega arith) k3 (lane-is (m + 3) m (k + 3) (j + 3) p d q (r .r3) (omega arith) (omega arith) k3 (omega arith) (omega arith) (omega arith) s3 (w .lanes))
-      (lane-done (m + 2) (m + 3) (k + 2) _ _ q _ (r .r2) (omega arith) (omega arith) k2 (lane-is (m + 2) m (k + 2) (j + 2) p d q (r .r2) (omega arith) (omega arith) k2 (omega arith) (omega arith) (omega arith) s2 (w .lanes))
-      (lane-done (m + 1) (m + 2) (k + 1) _ _ q _ (r .r1) (omega arith) (omega arith) k1 (lane-is (m + 1) m (k + 1) (j + 1) p d q (r .r1) (omega arith) (omega arith) k1 (omega arith) (omega arith) (omega arith) s1 (w .lanes))
-      (lane-done m (m + 1) k p d q t (r .r0) (omega arith) refl e (lane-is m m k j p d q (r .r0) (omega arith) (omega arith) e (omega arith) ej (omega arith) s0 (w .lanes)) w)))
+      lane-done (m + 3) (m + 4) (k + 3) _ _ q _ (r .r3) (omega arith) (omega arith) k3 (lane-is (m + 3) m (j + 3) ks p d q (r .r3) (omega arith) (omega arith) (omega arith) (omega arith) (omega arith) s3 F (w .lanes))
+      (lane-done (m + 2) (m + 3) (k + 2) _ _ q _ (r .r2) (omega arith) (omega arith) k2 (lane-is (m + 2) m (j + 2) ks p d q (r .r2) (omega arith) (omega arith) (omega arith) (omega arith) (omega arith) s2 F (w .lanes))
+      (lane-done (m + 1) (m + 2) (k + 1) _ _ q _ (r .r1) (omega arith) (omega arith) k1 (lane-is (m + 1) m (j + 1) ks p d q (r .r1) (omega arith) (omega arith) (omega arith) (omega arith) (omega arith) s1 F (w .lanes))
+      (lane-done m (m + 1) k p d q t (r .r0) (omega arith) refl e (lane-is m m j ks p d q (r .r0) (omega arith) (omega arith) ej (omega arith) (omega arith) s0 F (w .lanes)) w)))
 
 -- ---- one degree
 total-same : (i : Input Float) (f g : ℕ → Float) (k : ℕ) → ((m : ℕ) → m < k → f m ≡ g m) → total rounded i f k ≡ total rounded i g k
@@ -199,17 +199,23 @@ added i n t acc w e =
       total-same i (λ l. cellXyz t l .z) (λ l. laneTerms i n l .z) (n + 1) (λ l h. ap (λ (v : Xyz). v .z) (w l h)),
     )
 
--- the terms of all orders: those of the lanes, and in the last degree that of the order that has none
+-- the terms of all orders: those of the lanes, and in the last degree that of the order that has none; they stand in rows of thirteen
 pub all-terms : (i : Input Float) (n m : ℕ) (p d : List (List Float)) (q : Places) (t t' : List (List Float)) → n ≤ N-MAX → m ≤ N-MAX → (m < N-MAX → n < m) → Row i n m p d q t
     → ((v : Xyz) × (n ≡ N-MAX) × (v ≡ laneTerms i n N-MAX) × (t' ≡ putTerm t N-MAX v)) ⊎ ((n ≡ N-MAX → ⊥) × (t' ≡ t))
-    → (k : ℕ) → k < n + 1 → cellXyz t' k ≡ laneTerms i n k
-all-terms i n m p d q t t' hn hm l w s k h =
+    → Sized t' × ((k : ℕ) → k < n + 1 → cellXyz t' k ≡ laneTerms i n k)
+all-terms i n m p d q t t' hn hm l w s =
     ⊎-elim
-    (λ u. rw (u .3) (⊎-elim
-    (λ (e : k ≡ N-MAX). rw (e, term-same t N-MAX (u .0) (omega arith) (w .t-sized)) (u .2))
-    (λ e. term-other t N-MAX (u .0) (omega arith) (w .t-sized) k e ∙ w .terms-are k (⊎-elim (λ (a : m < N-MAX). omega (arith, l a)) (λ (a : N-MAX ≤ m). omega (arith, u .1)) (less-or m N-MAX)) (omega arith))
-    (same-or k N-MAX)))
-    (λ u. rw (u .1) (w .terms-are k (⊎-elim (λ (a : m < N-MAX). omega (arith, l a)) (λ (a : N-MAX ≤ m). (let g = u .0 in omega arith)) (less-or m N-MAX)) (omega arith)))
+    (λ u. rw (u .3) (
+      term-sized t N-MAX (u .0) (omega arith) (w .t-sized),
+      λ k h. ⊎-elim
+          (λ (e : k ≡ N-MAX). rw (e, term-same t N-MAX (u .0) (omega arith) (w .t-sized)) (u .2))
+          (λ e. term-other t N-MAX (u .0) (omega arith) (w .t-sized) k e ∙ w .terms-are k (⊎-elim (λ (a : m < N-MAX). omega (arith, l a)) (λ (a : N-MAX ≤ m). omega (arith, u .1)) (less-or m N-MAX)) (omega arith))
+          (same-or k N-MAX),
+    ))
+    (λ u. rw (u .1) (
+      w .t-sized,
+      λ k h. w .terms-are k (⊎-elim (λ (a : m < N-MAX). omega (arith, l a)) (λ (a : N-MAX ≤ m). (let g = u .0 in omega arith)) (less-or m N-MAX)) (omega arith),
+    ))
     s
 
 -- all lanes that the degree has are done; the others are where they started
@@ -273,8 +279,10 @@ more-power i (suc j) ar z e =
     rw (e, u, v)
 
 -- the invariant of the loop over the degrees
-pub record Outer (i : Input Float) (n : ℕ) (p d : List (List Float)) (q : Places) (ar : Float) (tot : Xyz) : Type 0 where
+pub record Outer (i : Input Float) (n : ℕ) (p d : List (List Float)) (ks : List Float) (t : List (List Float)) (q : Places) (ar : Float) (tot : Xyz) : Type 0 where
   pub lanes : Lanes i n 0 p d q
+  pub factors : Factors i n 0 ks
+  pub t-sized : Sized t
   pub ar-is : ar ≡ power rounded i (n - 1)
   pub tot-is : tot ≡ laneTotal i (n - 1)
 
@@ -334,10 +342,10 @@ lanes-start i = record {
   rest = λ m h hm. start-cells i 2 m (omega arith) h;
 }
 
-pub outer-start : (i : Input Float) (s : Starts) (ratio : Float) → s ≡ startsOf (i .cos-theta) (i .sin-theta) → ratio ≡ i .ratio
-    → Outer i 1 (thrice (s .p)) (thrice (s .dp)) places (mul binary32 (mul binary32 ratio ratio) ratio) (record { x = ofBits binary32 0; y = ofBits binary32 0; z = ofBits binary32 0 })
+pub outer-start : (i : Input Float) (s : Starts) (ratio : Float) → i .K ≡ kOf → s ≡ startsOf (i .cos-theta) (i .sin-theta) → ratio ≡ i .ratio
+    → Outer i 1 (thrice (s .p)) (thrice (s .dp)) (replicate N-MAX (ofBits binary32 0)) zeros places (mul binary32 (mul binary32 ratio ratio) ratio) (record { x = ofBits binary32 0; y = ofBits binary32 0; z = ofBits binary32 0 })
 unfolding power rounded laneTotal
-outer-start i s ratio e f = record { lanes = rw e (lanes-start i); ar-is = rw f; tot-is = rw lit-zero }
+outer-start i s ratio K e f = record { lanes = rw e (lanes-start i); factors = factors-start i K; t-sized = zeros-sized; ar-is = rw f; tot-is = rw lit-zero }
 
 -- the order that has no lane
 pub last-is : (i : Input Float) (s : Starts) → s ≡ startsOf (i .cos-theta) (i .sin-theta) → record { p = getD (s .p) N-MAX nan; dp = getD (s .dp) N-MAX nan } ≡ pdp (start i N-MAX)
@@ -345,28 +353,28 @@ unfolding startsOf
 last-is i s e = rw (e, first-get (λ m. startAt (i .cos-theta) (i .sin-theta) m .fst) M-LEN N-MAX (omega arith), first-get (λ m. startAt (i .cos-theta) (i .sin-theta) m .snd) M-LEN N-MAX (omega arith)) refl
 
 -- the weights as the code writes them
-pub weighed : (i : Input Float) (c s : Float) (cw sw kw : List Float) → c ≡ i .cos-theta → s ≡ i .sin-theta
+pub weighed : (i : Input Float) (c s : Float) (cw sw : List Float) → c ≡ i .cos-theta → s ≡ i .sin-theta
     → ((j : ℕ) → j < W-LEN → getD cw j nan ≡ cond (ltb j N-MAX) c (ofBits binary32 0x3f800000))
     → ((j : ℕ) → j < W-LEN → getD sw j nan ≡ cond (ltb j N-MAX) s (ofBits binary32 0))
-    → ((j : ℕ) → j < W-LEN → getD kw j nan ≡ cond (ltb j N-MAX) (ofBits binary32 0x3f800000) (ofBits binary32 0))
-    → Weighed i cw sw kw
-weighed i c s cw sw kw e f ec es ek = record {
+    → Weighed i cw sw
+weighed i c s cw sw e f ec es = record {
   cos-theta = λ j h. rw (e, lit-one) at (ec j h);
   sin-theta = λ j h. rw (f, lit-zero) at (es j h);
-  k = λ j h. rw (lit-one, lit-zero) at (ek j h);
 }
 
 -- before the first order
-pub begin : (i : Input Float) (n : ℕ) (p d : List (List Float)) (q : Places) → Lanes i n 0 p d q → Row i n 0 p d q zeros
-begin i n p d q w = record { lanes = w; t-sized = zeros-sized; terms-are = λ m h hm. absurd (not-suc-le-zero h) }
+pub begin : (i : Input Float) (n : ℕ) (p d : List (List Float)) (q : Places) (t : List (List Float)) → Sized t → Lanes i n 0 p d q → Row i n 0 p d q t
+begin i n p d q t s w = record { lanes = w; t-sized = s; terms-are = λ m h hm. absurd (not-suc-le-zero h) }
 
-pub next-degree : (i : Input Float) (n : ℕ) (p₀ d₀ p d : List (List Float)) (q q' : Places) (acc tot tot' : Xyz) (ar ratio : Float)
-    → 0 < n → ratio ≡ i .ratio → Outer i n p₀ d₀ q ar tot → acc ≡ laneSums i n → Lanes i n N-MAX p d q
+pub next-degree : (i : Input Float) (n : ℕ) (p₀ d₀ p d : List (List Float)) (ks₀ ks : List Float) (t₀ t : List (List Float)) (q q' : Places) (acc tot tot' : Xyz) (ar ratio : Float)
+    → 0 < n → ratio ≡ i .ratio → Outer i n p₀ d₀ ks₀ t₀ q ar tot → (acc ≡ laneSums i n) × Sized t × Factors i n N-MAX ks × Lanes i n N-MAX p d q
     → tot' ≡ addDegree tot n ar acc → q' ≡ rotated q
-    → Outer i (n + 1) p d q' (mul binary32 ar ratio) tot'
-next-degree i n p₀ d₀ p d q q' acc tot tot' ar ratio z f o ea w ed eq =
+    → Outer i (n + 1) p d ks t q' (mul binary32 ar ratio) tot'
+next-degree i n p₀ d₀ p d ks₀ ks t₀ t q q' acc tot tot' ar ratio z f o g ed eq =
     record {
-      lanes = rw eq (lanes-rotate i n p d q z w);
+      lanes = rw eq (lanes-rotate i n p d q z (g .3));
+      factors = factors-turn i n ks (g .2);
+      t-sized = g .1;
       ar-is = rw f (more-power i n ar z (o .ar-is));
-      tot-is = ed ∙ more-degrees i n tot acc ar z (o .tot-is) (o .ar-is) ea;
+      tot-is = ed ∙ more-degrees i n tot acc ar z (o .tot-is) (o .ar-is) (g .0);
     }

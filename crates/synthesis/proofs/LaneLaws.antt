@@ -21,14 +21,12 @@ use Rattle.sums.proofs.Kept.{Null, less-null, mul-null, null-less, null-mul, on
 use Rattle.sums.proofs.Step.{legendre-next, same-or}
 use Rattle.sums.proofs.ZeroSign.{total-unseen}
 
--- what the law asks of what is read: numbers of the format, finite, and K(n, n - 1) a zero
+-- what the law asks of what is read: numbers of the format, finite, and K a zero from order n - 1 on
 pub record Plain (i : Input Float) : Type 0 where
   pub cos-held : T (fits binary32 (i .cos-theta))
   pub sin-held : T (fits binary32 (i .sin-theta))
   pub cos-finite : T (finite (i .cos-theta))
-  pub K-held : (n m : ℕ) → T (fits binary32 (i .K n m))
-  pub K-finite : (n m : ℕ) → T (finite (i .K n m))
-  pub K-last : (n : ℕ) → 0 < n → n ≤ N-MAX → Null (i .K n (n - 1))
+  pub K-null : (n m : ℕ) → n < m + 2 → Null (i .K n m)
   pub P-finite : (n m : ℕ) → n ≤ N-MAX → T (finite (legendre rounded i n m .fst)) × T (finite (legendre rounded i n m .snd))
 
 -- both numbers of a pair
@@ -119,8 +117,8 @@ module _ (i : Input Float) (w : Plain i) where
       let a = start i m in
       let h = start-held m in
       let f = start-finite m M in
-      let z : Null (rounded .times (i .K n m) (lit 0)) = mul-null (i .K n m) (lit 0) (w .K-finite n m) zero-null in
-      let k = rounded .times (i .K n m) (lit 0) in
+      let k = i .K n m in
+      let z : Null k = w .K-null n m (omega arith) in
       let v = lowered-same (lit 1) (lit 0) k p o in
       rw (le-ltb m n l) (
         same-trans (v .0) (rw (one-times (a .fst) (h .0)) (less-null (a .fst) _ (h .0) (null-mul k (a .fst) z (f .0)))),
@@ -140,8 +138,8 @@ module _ (i : Input Float) (w : Plain i) where
   -- ---- a lane from its degree on
   -- below the degree the step is the row step's last branch
   stepped-below : (n m : ℕ) → m < n → (q r : Pair Float) → laneStep i n m q r ≡ lowered (i .cos-theta) (i .sin-theta) (i .K n m) q r
-  unfolding laneStep rounded
-  stepped-below n m l q r = rw (lt-ltb m n l, times-one (i .K n m) (w .K-held n m)) refl
+  unfolding laneStep
+  stepped-below n m l q r = rw (lt-ltb m n l) refl
 
   -- degree 1, order 0
   first-near : SameP (lowered (i .cos-theta) (i .sin-theta) (i .K 1 0) (start i 0) (start i 0)) (pair (i .cos-theta) (rounded .opp (i .sin-theta)))
@@ -150,7 +148,7 @@ module _ (i : Input Float) (w : Plain i) where
       let c = i .cos-theta in
       let s = i .sin-theta in
       let k = i .K 1 0 in
-      let z : Null k = w .K-last 1 (omega arith) (omega arith) in
+      let z : Null k = w .K-null 1 0 (omega arith) in
       let f = start-finite 0 (omega arith) in (
         rw (times-one c (w .cos-held)) (less-null c _ (w .cos-held) (null-mul k (lit 1) z (f .0))),
         rw (times-one s (w .sin-held))
@@ -172,8 +170,7 @@ module _ (i : Input Float) (w : Plain i) where
     unfolding rounded
     next-near =
         let k = i .K n m in
-        let v : n - 1 ≡ m = omega arith in
-        let z : Null k = rw v at (w .K-last n (omega arith) M) in
+        let z : Null k = w .K-null n m (omega arith) in
         let f = start-finite m (omega arith) in
         (less-null _ _ (mul-fits binary32 (i .cos-theta) (over .fst)) (null-mul k (start i m .fst) z (f .0)), less-null _ _ (sub-fits binary32 _ _) (null-mul k (start i m .snd) z (f .1)))
 

@@ -1,5 +1,5 @@
 -- One more degree of the sum near the pole.
-use mathlib.Core.Path.{_≡_, refl, ap₂, _∙_}
+use mathlib.Core.Path.{_≡_, refl, sym, ap₂, _∙_}
 use Prim.Native.Nat.{ℕ, zero, suc, _+_, _-_, _<_, _≤_}
 use native.Mathlib.Nat.{not-suc-le-zero}
 use native.Mathlib.Omega.{arith}
@@ -7,7 +7,10 @@ use borrow.Author.Tests.{ne-eqb}
 use lib.ListN.{getD}
 use lib.Ieee.{Float, nan, binary32, mul, ofBits}
 use mathlib.Core.List.{List}
-use Rattle.tables.specs.Tables.{kTable, schmidtTable}
+use Rattle.tables.specs.Tables.{schmidtTable}
+use Rattle.tables.specs.Rule.{kOf}
+use Rattle.tables.specs.Division.{kDivided}
+use Rattle.tables.proofs.Factors.{k-whole, k-zero}
 use Rattle.tables.specs.Degree.{M-LEN, N-LEGENDRE, place}
 use Rattle.synthesis.specs.declared.rows.PDp.{PDp}
 use Rattle.synthesis.specs.declared.near_pole.PoleRow.{PoleRow}
@@ -18,7 +21,7 @@ use Rattle.sums.specs.Recurrence.{Input, dpsn, legendre, lit, pole-angle, pole-
 use Rattle.sums.specs.Paths.{POLE-ORDERS, placed}
 use Rattle.synthesis.specs.Sum.{Lent, inputs}
 use Rattle.synthesis.specs.Code.{addPoleDegree, ghAt, nearPole, nextQ, nextRow, pdp, poleParts, termOf}
-use Rattle.synthesis.proofs.GeneralSum.{Long, g-read, h-read, k-place, lit-one, lit-zero, s-place}
+use Rattle.synthesis.proofs.GeneralSum.{Long, g-read, h-read, lit-one, lit-zero, s-place}
 use Rattle.synthesis.proofs.PlaceSizes.{most}
 
 -- what degree n hands on, and what the degree before it did; before degree 0 the recurrence reads 0
@@ -55,6 +58,16 @@ more-degrees i n = refl
 dates : (a : Lent) (n m j : ℕ) → Long a → 0 < n → n < M-LEN → m ≤ n → j ≡ place n m - 1 → ghAt (a .g) (a .h) (a .g-dot) (a .h-dot) (a .offset) j ≡ gh (inputs rounded a .g n m) (inputs rounded a .h n m)
 dates a n m j L z hn hm e = ap₂ gh (g-read a n m j z hn hm e (L .g) (L .g-dot)) (h-read a n m j z hn hm e (L .h) (L .h-dot))
 
+-- ---- the factors of the orders 0 and 1
+-- those of degree 1 are 0
+pub first-k : (m : ℕ) → ofBits binary32 0 ≡ kOf 1 m
+unfolding ofBits
+first-k m = sym (k-zero 1 m (omega arith))
+
+-- those of the degree after n
+pub next-k : (n : ℕ) → n < M-LEN → (kDivided (lit n) (ofBits binary32 0) ≡ kOf (n + 1) 0) × (kDivided (lit n) (ofBits binary32 0x3f800000) ≡ kOf (n + 1) 1)
+next-k n h = (rw lit-zero (k-whole n 0 (omega arith) (omega arith)), rw lit-one (k-whole n 1 (omega arith) (omega arith)))
+
 -- ---- the loop's invariant: n degrees are done
 pub record Outer (a : Lent) (n : ℕ) (prev1 prev2 : PoleRow) (ar : Float) (tot : Xyz) : Type 0 where
   pub prev1-is : prev1 ≡ row (inputs rounded a) n
@@ -73,20 +86,20 @@ unfolding inputs placed power quotient legendre row-before rounded pole-x pole-y
 start a = record { prev1-is = rw (lit-zero, lit-one); prev2-is = rw (lit-zero, lit-one); ar-is = refl; tot-is = rw lit-zero }
 
 -- the next degree; its order 0 stands at place j of the tables
-next : (a : Lent) (n j : ℕ) (ks ss : List Float) (prev1 prev2 new : PoleRow) (ar : Float) (tot tot' v : Xyz)
-    → Long a → suc n < M-LEN → j ≡ place (suc n) 0 → ks ≡ kTable → ss ≡ schmidtTable → Outer a n prev1 prev2 ar tot
-    → new ≡ nextRow (suc n) (getD ks j nan) (getD ks (j + 1) nan) (a .cos-theta) (a .sin-theta) prev1 prev2
+next : (a : Lent) (n j : ℕ) (ss : List Float) (prev1 prev2 new : PoleRow) (ar : Float) (tot tot' v : Xyz)
+    → Long a → suc n < M-LEN → j ≡ place (suc n) 0 → ss ≡ schmidtTable → Outer a n prev1 prev2 ar tot
+    → new ≡ nextRow (suc n) (kOf (suc n) 0) (kOf (suc n) 1) (a .cos-theta) (a .sin-theta) prev1 prev2
     → v ≡ poleParts new (ghAt (a .g) (a .h) (a .g-dot) (a .h-dot) (a .offset) (j - 1)) (ghAt (a .g) (a .h) (a .g-dot) (a .h-dot) (a .offset) j) (getD ss j nan) (getD ss (j + 1) nan) (record { sin = a .sin-lambda; cos = a .cos-lambda }) ar
     → tot' ≡ addPoleDegree tot (suc n) ar v
     → Outer a (suc n) new prev1 (mul binary32 ar (a .ratio)) tot'
 unfolding inputs placed power row-before rounded
-next a n j ks ss prev1 prev2 new ar tot tot' v L hn ej ek es o en ev et =
+next a n j ss prev1 prev2 new ar tot tot' v L hn ej es o en ev et =
     let i = inputs rounded a in
     let z : 0 < suc n = omega arith in
     let h1 : 1 ≤ suc n = omega arith in
     let p0 : (j ≡ place (suc n) 0) × (j < N-LEGENDRE) = (ej, omega (arith, most (suc n) hn)) in
     let p1 : (j + 1 ≡ place (suc n) 1) × (j + 1 < N-LEGENDRE) = (omega arith, omega (arith, most (suc n) hn)) in
-    let er : new ≡ row i (suc n) = en ∙ rw (k-place ks j (suc n) 0 ek p0, k-place ks (j + 1) (suc n) 1 ek p1, o .prev1-is, o .prev2-is) (next-row i n) in
+    let er : new ≡ row i (suc n) = en ∙ rw (o .prev1-is, o .prev2-is) (next-row i n) in
     let d0 = dates a (suc n) 0 (j - 1) L z hn (omega arith) (omega arith) in
     let d1 = dates a (suc n) 1 j L z hn h1 (omega arith) in
     let ep : v ≡ parts i (suc n) (power rounded i n) = ev ∙ rw (er, d0, d1, s-place ss j (suc n) 0 es p0, s-place ss (j + 1) (suc n) 1 es p1, o .ar-is) (parts-are i (suc n) (power rounded i n)) in
@@ -97,14 +110,14 @@ next a n j ks ss prev1 prev2 new ar tot tot' v L hn ej ek es o en ev et =
       tot-is = et ∙ rw (o .tot-is, o .ar-is, ep) (more-degrees i n);
     }
 
-pub next-degree : (a : Lent) (n j : ℕ) (ks ss : List Float) (prev1 prev2 new : PoleRow) (ar : Float) (tot tot' v : Xyz)
-    → 0 < n → Long a → n < M-LEN → j ≡ place n 0 → ks ≡ kTable → ss ≡ schmidtTable → Outer a (n - 1) prev1 prev2 ar tot
-    → new ≡ nextRow n (getD ks j nan) (getD ks (j + 1) nan) (a .cos-theta) (a .sin-theta) prev1 prev2
+pub next-degree : (a : Lent) (n j : ℕ) (ss : List Float) (prev1 prev2 new : PoleRow) (ar : Float) (tot tot' v : Xyz)
+    → 0 < n → Long a → n < M-LEN → j ≡ place n 0 → ss ≡ schmidtTable → Outer a (n - 1) prev1 prev2 ar tot
+    → new ≡ nextRow n (kOf n 0) (kOf n 1) (a .cos-theta) (a .sin-theta) prev1 prev2
     → v ≡ poleParts new (ghAt (a .g) (a .h) (a .g-dot) (a .h-dot) (a .offset) (j - 1)) (ghAt (a .g) (a .h) (a .g-dot) (a .h-dot) (a .offset) j) (getD ss j nan) (getD ss (j + 1) nan) (record { sin = a .sin-lambda; cos = a .cos-lambda }) ar
     → tot' ≡ addPoleDegree tot n ar v
     → Outer a (n + 1 - 1) new prev1 (mul binary32 ar (a .ratio)) tot'
-next-degree a zero j ks ss prev1 prev2 new ar tot tot' v z L hn ej ek es o en ev et = absurd (not-suc-le-zero z)
-next-degree a (suc n) j ks ss prev1 prev2 new ar tot tot' v z L hn ej ek es o en ev et =
+next-degree a zero j ss prev1 prev2 new ar tot tot' v z L hn ej es o en ev et = absurd (not-suc-le-zero z)
+next-degree a (suc n) j ss prev1 prev2 new ar tot tot' v z L hn ej es o en ev et =
     let u : suc n + 1 - 1 ≡ suc n = omega arith in
     let w : suc n - 1 ≡ n = omega arith in
-    rw u (next a n j ks ss prev1 prev2 new ar tot tot' v L hn ej ek es (rw w at o) en ev et)
+    rw u (next a n j ss prev1 prev2 new ar tot tot' v L hn ej es (rw w at o) en ev et)

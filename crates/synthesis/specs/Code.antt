@@ -6,7 +6,9 @@ use mathlib.Core.Bool.{cond}
 use lib.Dec.{eqb, ltb}
 use lib.ListN.{getD, set, length}
 use lib.Ieee.{Float, nan, binary32, ofBits}
-use Rattle.tables.specs.Degree.{M-LEN, N-COEFF, N-LEGENDRE, N-MAX, place}
+use Rattle.tables.specs.Degree.{M-LEN, N-COEFF, N-MAX, place}
+use Rattle.tables.specs.Rule.{kOf}
+use Rattle.tables.specs.Division.{kDivided}
 use Rattle.synthesis.specs.declared.Xyz.{Xyz}
 use Rattle.synthesis.specs.declared.rows.Four.{Four}
 use Rattle.synthesis.specs.declared.rows.PDp.{PDp}
@@ -87,7 +89,7 @@ weight below then n m = cond (ltb m n) below then
 
 -- the step of lane m in degree n: below the degree the row step's last branch, from it on the lane is kept
 unfoldable pub laneStep : Input Float → ℕ → ℕ → Pair Float → Pair Float → Pair Float
-laneStep i n m q r = lowered (weight (i .cos-theta) (lit 1) n m) (weight (i .sin-theta) (lit 0) n m) (rounded .times (i .K n m) (weight (lit 1) (lit 0) n m)) q r
+laneStep i n m q r = lowered (weight (i .cos-theta) (lit 1) n m) (weight (i .sin-theta) (lit 0) n m) (i .K n m) q r
 
 -- what lane m holds in degree n. Its four lanes are taken from the degree on that the first of them has
 unfoldable pub lane : Input Float → ℕ → ℕ → Pair Float
@@ -99,9 +101,17 @@ lane i (suc (suc n)) m = cond (ltb (suc (suc n)) (4 * (m / 4))) (start i m) (lan
 abbrev pub W-LEN : ℕ
 W-LEN = 2 * N-MAX
 
--- lane m after a step, k its place in the table and w its place in the lists of weights
-abbrev pub loweredAt : ℕ → ℕ → ℕ → List Float → List Float → List Float → List Float → List (List Float) → List (List Float) → Places → PDp
-loweredAt m k w ks cw sw kw p d q = pdp (lowered (getD cw w nan) (getD sw w nan) (rounded .times (getD ks k nan) (getD kw w nan)) (cells p d (q .prev1) m) (cells p d (q .prev2) m))
+-- lane m after a step, ks the factors of the degree and w the lane's place in the lists of weights
+abbrev pub loweredAt : ℕ → ℕ → List Float → List Float → List Float → List (List Float) → List (List Float) → Places → PDp
+loweredAt m w ks cw sw p d q = pdp (lowered (getD cw w nan) (getD sw w nan) (getD ks m nan) (cells p d (q .prev1) m) (cells p d (q .prev2) m))
+
+-- the factor of the degree after n in lane m, os the orders
+abbrev pub nextK : List Float → ℕ → ℕ → Float
+nextK os n m = kDivided (getD os n nan) (getD os m nan)
+
+-- such factors in the lanes m to m + 3
+abbrev pub putK : List Float → ℕ → ℕ → List Float → List Float
+putK ks n m os = set (set (set (set ks m (nextK os n m)) (m + 1) (nextK os n (m + 1))) (m + 2) (nextK os n (m + 2))) (m + 3) (nextK os n (m + 3))
 
 -- one order's terms of the three sums, o the order
 unfoldable pub termOf : Float → Float → PDp → Float → Float → Float → Float → Xyz
@@ -190,7 +200,13 @@ pub record Lanes (i : Input Float) (n j : ℕ) (p d : List (List Float)) (q : Pl
   pub done : (m : ℕ) → m < N-MAX → m < j → cells p d (q .cur) m ≡ lane i n m
   pub rest : (m : ℕ) → m < N-MAX → j ≤ m → cells p d (q .cur) m ≡ lane i (n - 3) m
 
--- the same, and the terms of the orders below j in the rows t
+-- the factors in degree n: those of the next degree in the lanes below j
+pub record Factors (i : Input Float) (n j : ℕ) (ks : List Float) : Type 0 where
+  pub long : length ks ≡ N-MAX
+  pub done : (m : ℕ) → m < N-MAX → m < j → getD ks m nan ≡ i .K (n + 1) m
+  pub rest : (m : ℕ) → m < N-MAX → j ≤ m → getD ks m nan ≡ i .K n m
+
+-- the lanes, and the terms of the orders below j in the rows t
 pub record Row (i : Input Float) (n j : ℕ) (p d : List (List Float)) (q : Places) (t : List (List Float)) : Type 0 where
   pub lanes : Lanes i n j p d q
   pub t-sized : Sized t
@@ -200,9 +216,9 @@ pub record Row (i : Input Float) (n j : ℕ) (p d : List (List Float)) (q : Plac
 abbrev pub rowSums : Input Float → ℕ → Xyz
 rowSums i n = record { x = x-row rounded i n; y = y-row rounded i n; z = z-row rounded i n }
 
--- what the code reads at each order is what the sums read: the two tables, the coefficients at the date, the orders, the angles
-pub record Given (i : Input Float) (ks ss gt ht os sin cos : List Float) : Type 0 where
-  pub K : (n m : ℕ) → place n m < N-LEGENDRE → getD ks (place n m) nan ≡ i .K n m
+-- what the code reads at each order is what the sums read: the factors K, Schmidt's table, the coefficients at the date, the orders, the angles
+pub record Given (i : Input Float) (ss gt ht os sin cos : List Float) : Type 0 where
+  pub K : i .K ≡ kOf
   pub S : (n m : ℕ) → n < M-LEN → m ≤ n → getD ss (place n m) nan ≡ i .S n m
   pub g : (n m : ℕ) → 0 < n → n < M-LEN → m ≤ n → getD gt (place n m - 1) nan ≡ i .g n m
   pub h : (n m : ℕ) → 0 < n → n < M-LEN → m ≤ n → getD ht (place n m - 1) nan ≡ i .h n m
@@ -210,11 +226,10 @@ pub record Given (i : Input Float) (ks ss gt ht os sin cos : List Float) : Type 
   pub sin-is : (m : ℕ) → m < M-LEN → getD sin m nan ≡ angle rounded (i .sin-lambda) (i .cos-lambda) m .fst
   pub cos-is : (m : ℕ) → m < M-LEN → getD cos m nan ≡ angle rounded (i .sin-lambda) (i .cos-lambda) m .snd
 
--- the three lists of weights: before P and its derivative, before P in the derivative, before k
-pub record Weighed (i : Input Float) (cw sw kw : List Float) : Type 0 where
+-- the two lists of weights: before P and its derivative, before P in the derivative
+pub record Weighed (i : Input Float) (cw sw : List Float) : Type 0 where
   pub cos-theta : (j : ℕ) → j < W-LEN → getD cw j nan ≡ cond (ltb j N-MAX) (i .cos-theta) (lit 1)
   pub sin-theta : (j : ℕ) → j < W-LEN → getD sw j nan ≡ cond (ltb j N-MAX) (i .sin-theta) (lit 0)
-  pub k : (j : ℕ) → j < W-LEN → getD kw j nan ≡ cond (ltb j N-MAX) (lit 1) (lit 0)
 
 -- ---- near the pole
 -- Q of degree n, from those of degrees n - 1 and n - 2

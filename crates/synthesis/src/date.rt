@@ -37,14 +37,13 @@ pub fn coeffs_at(
     Gh { g: gt, h: ht }
 }
 
-// A whole list in one pass, so that it runs by lanes.
-pub fn at_date(main: &[f32], secular: &[f32], time_delta: f32) -> [f32; N_COEFF]
-    requires { ⌜ (length (now main) ≡ N-COEFF) × (length (now secular) ≡ N-COEFF) ⌝ }
-    ensures { λ r. ⌜ r ≡ atDate (now (main .entry)) (now (secular .entry)) «time_delta» ⌝ }
+// A whole list in one pass, so that it runs by lanes. It is filled in place: a list that is handed
+// back is copied.
+pub fn put_at_date(main: &[f32], secular: &[f32], time_delta: f32, r: &mut [f32; N_COEFF])
+    requires { ⌜ (length (now main) ≡ N-COEFF) × (length (now secular) ≡ N-COEFF) × (length (now r) ≡ N-COEFF) ⌝ }
+    ensures { λ _. ⌜ now (r .exit) ≡ atDate (now (main .entry)) (now (secular .entry)) «time_delta» ⌝ }
 {
-    let mut r = [0.0f32; N_COEFF];
     for i in 0..N_COEFF {
         r[i] = coeff_at_t(main[i], secular[i], time_delta);
     }
-    r
 }

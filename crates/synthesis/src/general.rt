@@ -4,10 +4,11 @@ use crate::Xyz;
 use crate::angles::SinCos;
 use crate::angles::sin_cos_m_lambda;
 use crate::date::Gh;
-use crate::date::at_date;
+use crate::date::put_at_date;
 use crate::lanes::Starts;
 use crate::lanes::W_LEN;
 use crate::lanes::below_then;
+use crate::lanes::put_next_k;
 use crate::lanes::start_values;
 use crate::rows::Four;
 use crate::rows::PDp;
@@ -27,7 +28,7 @@ ghost use Rattle.tables.specs.Degree.{N-MAX, M-LEN, N-COEFF, N-LEGENDRE};
 ghost use Rattle.sums.specs.Arithmetic.{rounded};
 ghost use Rattle.synthesis.specs.Sum.{SumAccepted, inputs, lent};
 ghost use Rattle.sums.specs.Recurrence.{Input, lit};
-ghost use Rattle.synthesis.specs.Code.{Given, Lanes, Row, Weighed, addDegree, cellXyz, first, general, laneSums, laneTotal, pdp, put2Terms, put4Terms, putTerm, start, startsOf, termAt, termOf, totals};
+ghost use Rattle.synthesis.specs.Code.{Factors, Given, Lanes, Row, Sized, Weighed, addDegree, cellXyz, first, general, laneSums, laneTotal, pdp, put2Terms, put4Terms, putTerm, start, startsOf, termAt, termOf, totals};
 
 // The orders as f32. Read from a table, taken once a call: a conversion does not run by lanes.
 const ORDERS: [f32; M_LEN] = [
@@ -150,14 +151,14 @@ pub fn put_four_terms(
     put_two_terms(m + 2, i + 2, r.r2, r.r3, ss, gt, ht, os, sin, cos, t);
 }
 
-// The lanes m to m + 3 in degree n. What stands in a lane above the degree is not added up.
+// The lanes m to m + 3 in degree n, and their factors for the next. What stands in a lane above the
+// degree is not added up.
 pub fn four_orders(
     n: usize,
     m: usize,
-    ks: &[f32; N_LEGENDRE],
+    ks: &mut [f32; N_MAX],
     cw: &[f32; W_LEN],
     sw: &[f32; W_LEN],
-    kw: &[f32; W_LEN],
     ss: &[f32; N_LEGENDRE],
     gt: &[f32; N_COEFF],
     ht: &[f32; N_COEFF],
@@ -170,14 +171,15 @@ pub fn four_orders(
     t: &mut [[f32; M_LEN]; 3],
 )
     requires { ⌜ (0 < n) × (n < M-LEN) × (m ≤ n) × (m + 3 < N-MAX) × (4 * (m / 4) ≡ m) × (q .prev1 < 3) × (q .prev2 < 3) × (q .cur < 3) ⌝ }
-    ensures { λ _. ⌜ ((i : Input Float) → Given i (now (ks .entry)) (now (ss .entry)) (now (gt .entry)) (now (ht .entry)) (now (os .entry)) (now (sin .entry)) (now (cos .entry))
-        → Weighed i (now (cw .entry)) (now (sw .entry)) (now (kw .entry))
-        → Row i n m (now (p .entry)) (now (dp .entry)) q (now (t .entry)) → Row i n (m + 4) (now (p .exit)) (now (dp .exit)) q (now (t .exit))) ⌝ }
+    ensures { λ _. ⌜ ((i : Input Float) → Given i (now (ss .entry)) (now (gt .entry)) (now (ht .entry)) (now (os .entry)) (now (sin .entry)) (now (cos .entry))
+        → Weighed i (now (cw .entry)) (now (sw .entry)) → Factors i n m (now (ks .entry)) → Row i n m (now (p .entry)) (now (dp .entry)) q (now (t .entry))
+        → Factors i n (m + 4) (now (ks .exit)) × Row i n (m + 4) (now (p .exit)) (now (dp .exit)) q (now (t .exit))) ⌝ }
 {
     let i = legendre_index(n, m);
     let cur = q.cur;
-    let r = lower_four(m, i, m + N_MAX - n, ks, cw, sw, kw, p, dp, q);
+    let r = lower_four(m, m + N_MAX - n, ks, cw, sw, p, dp, q);
     put_four(m, r, p, dp, cur);
+    put_next_k(n, m, os, ks);
     put_four_terms(m, i, r, ss, gt, ht, os, sin, cos, t);
 }
 
@@ -197,14 +199,14 @@ pub fn add_terms(count: usize, t: &[[f32; M_LEN]; 3]) -> Xyz
     Xyz { x, y, z }
 }
 
-// The sums of degree n, its row filled from those of the two degrees before. The last order of the
-// last degree has no lane: its P is `last`.
+// The sums of degree n, its row filled from those of the two degrees before, with its factors, which
+// become those of the next. The last order of the last degree has no lane: its P is `last`. The terms
+// go through the rows t, which are the caller's: to make them anew takes time.
 pub fn degree(
     n: usize,
-    ks: &[f32; N_LEGENDRE],
+    ks: &mut [f32; N_MAX],
     cw: &[f32; W_LEN],
     sw: &[f32; W_LEN],
-    kw: &[f32; W_LEN],
     ss: &[f32; N_LEGENDRE],
     gt: &[f32; N_COEFF],
     ht: &[f32; N_COEFF],
@@ -215,43 +217,27 @@ pub fn degree(
     dp: &mut [[f32; M_LEN]; 3],
     q: Places,
     last: PDp,
+    t: &mut [[f32; M_LEN]; 3],
 ) -> Xyz
     requires { ⌜ (0 < n) × (n < M-LEN) × (q .prev1 < 3) × (q .prev2 < 3) × (q .cur < 3) ⌝ }
-    ensures { λ r. ⌜ ((i : Input Float) → Given i (now (ks .entry)) (now (ss .entry)) (now (gt .entry)) (now (ht .entry)) (now (os .entry)) (now (sin .entry)) (now (cos .entry))
-        → Weighed i (now (cw .entry)) (now (sw .entry)) (now (kw .entry)) → last ≡ pdp (start i N-MAX)
-        → Lanes i n 0 (now (p .entry)) (now (dp .entry)) q → (r ≡ laneSums i n) × Lanes i n N-MAX (now (p .exit)) (now (dp .exit)) q) ⌝ }
+    ensures { λ r. ⌜ ((i : Input Float) → Given i (now (ss .entry)) (now (gt .entry)) (now (ht .entry)) (now (os .entry)) (now (sin .entry)) (now (cos .entry))
+        → Weighed i (now (cw .entry)) (now (sw .entry)) → last ≡ pdp (start i N-MAX)
+        → Sized (now (t .entry)) → Factors i n 0 (now (ks .entry)) → Lanes i n 0 (now (p .entry)) (now (dp .entry)) q
+        → (r ≡ laneSums i n) × Sized (now (t .exit)) × Factors i n N-MAX (now (ks .exit)) × Lanes i n N-MAX (now (p .exit)) (now (dp .exit)) q) ⌝ }
 {
-    let mut t = [[0.0f32; M_LEN]; 3];
     let mut m = 0usize;
     while m <= n && m < N_MAX {
-        four_orders(
-            n,
-            m,
-            ks,
-            cw,
-            sw,
-            kw,
-            ss,
-            gt,
-            ht,
-            os,
-            sin,
-            cos,
-            p,
-            dp,
-            q,
-            &mut t,
-        );
+        four_orders(n, m, ks, cw, sw, ss, gt, ht, os, sin, cos, p, dp, q, t);
         m += 4;
     }
     if n == N_MAX {
         put_term(
             N_MAX,
             term(N_MAX, N_LEGENDRE - 1, last, ss, gt, ht, os, sin, cos),
-            &mut t,
+            t,
         );
     }
-    add_terms(n + 1, &t)
+    add_terms(n + 1, t)
 }
 
 // One degree's part of the sums.
@@ -267,12 +253,11 @@ pub fn add_degree(t: Xyz, n: usize, a_over_r_n2: f32, a: Xyz) -> Xyz
 }
 
 // The degrees one after another: three rows for P and three for its derivative, whose roles rotate.
+// The factors of degree 1 are 0.
 pub fn degrees(
     ratio: f32,
-    ks: &[f32; N_LEGENDRE],
     cw: &[f32; W_LEN],
     sw: &[f32; W_LEN],
-    kw: &[f32; W_LEN],
     ss: &[f32; N_LEGENDRE],
     gt: &[f32; N_COEFF],
     ht: &[f32; N_COEFF],
@@ -282,8 +267,8 @@ pub fn degrees(
     d: Starts,
 ) -> Xyz
     ensures { λ r. ⌜ ((i : Input Float) → ratio ≡ i .ratio → d ≡ startsOf (i .cos-theta) (i .sin-theta)
-        → Given i (now (ks .entry)) (now (ss .entry)) (now (gt .entry)) (now (ht .entry)) (now (os .entry)) (now (sin .entry)) (now (cos .entry))
-        → Weighed i (now (cw .entry)) (now (sw .entry)) (now (kw .entry)) → r ≡ laneTotal i N-MAX) ⌝ }
+        → Given i (now (ss .entry)) (now (gt .entry)) (now (ht .entry)) (now (os .entry)) (now (sin .entry)) (now (cos .entry))
+        → Weighed i (now (cw .entry)) (now (sw .entry)) → r ≡ laneTotal i N-MAX) ⌝ }
 {
     let last = PDp {
         p: d.p[N_MAX],
@@ -291,6 +276,8 @@ pub fn degrees(
     };
     let mut p = [d.p, d.p, d.p];
     let mut dp = [d.dp, d.dp, d.dp];
+    let mut ks = [0.0f32; N_MAX];
+    let mut t = [[0.0f32; M_LEN]; 3];
     let mut q = Places {
         prev2: 0,
         prev1: 1,
@@ -305,10 +292,9 @@ pub fn degrees(
     for n in 1..M_LEN {
         let acc = degree(
             n,
-            ks,
+            &mut ks,
             cw,
             sw,
-            kw,
             ss,
             gt,
             ht,
@@ -319,6 +305,7 @@ pub fn degrees(
             &mut dp,
             q,
             last,
+            &mut t,
         );
         tot = add_degree(tot, n, power, acc);
         power = power * ratio;
@@ -332,7 +319,6 @@ pub fn all_degrees(
     cos_theta: f32,
     sin_theta: f32,
     ratio: f32,
-    ks: &[f32; N_LEGENDRE],
     ss: &[f32; N_LEGENDRE],
     gt: &[f32; N_COEFF],
     ht: &[f32; N_COEFF],
@@ -340,14 +326,13 @@ pub fn all_degrees(
     cos: &[f32; M_LEN],
 ) -> Xyz
     ensures { λ r. ⌜ ((i : Input Float) → «cos_theta» ≡ i .cos-theta → «sin_theta» ≡ i .sin-theta → ratio ≡ i .ratio
-        → Given i (now (ks .entry)) (now (ss .entry)) (now (gt .entry)) (now (ht .entry)) (first lit M-LEN) (now (sin .entry)) (now (cos .entry)) → r ≡ laneTotal i N-MAX) ⌝ }
+        → Given i (now (ss .entry)) (now (gt .entry)) (now (ht .entry)) (first lit M-LEN) (now (sin .entry)) (now (cos .entry)) → r ≡ laneTotal i N-MAX) ⌝ }
 {
     let os = orders();
     let cw = below_then(cos_theta, 1.0);
     let sw = below_then(sin_theta, 0.0);
-    let kw = below_then(1.0, 0.0);
     let d = start_values(cos_theta, sin_theta);
-    degrees(ratio, ks, &cw, &sw, &kw, ss, gt, ht, &os, sin, cos, d)
+    degrees(ratio, &cw, &sw, ss, gt, ht, &os, sin, cos, d)
 }
 
 pub fn synthesize_xyz_prime(
@@ -367,11 +352,12 @@ pub fn synthesize_xyz_prime(
     ensures { λ r. ⌜ r ≡ general (inputs rounded (lent «cos_theta» «sin_theta» «sin_lambda» «cos_lambda» ratio «time_delta» (now (g .entry)) (now (h .entry)) (now («g_dot» .entry)) (now («h_dot» .entry)))) N-MAX ⌝ }
 {
     let a = sin_cos_m_lambda(sin_lambda, cos_lambda);
-    let ks = tables::k_table();
     let ss = tables::schmidt_table();
-    let gt = at_date(g, g_dot, time_delta);
-    let ht = at_date(h, h_dot, time_delta);
+    let mut gt = [0.0f32; N_COEFF];
+    let mut ht = [0.0f32; N_COEFF];
+    put_at_date(g, g_dot, time_delta, &mut gt);
+    put_at_date(h, h_dot, time_delta, &mut ht);
     let sin = a.sin;
     let cos = a.cos;
-    all_degrees(cos_theta, sin_theta, ratio, &ks, &ss, &gt, &ht, &sin, &cos)
+    all_degrees(cos_theta, sin_theta, ratio, &ss, &gt, &ht, &sin, &cos)
 }

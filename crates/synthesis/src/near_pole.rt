@@ -37,32 +37,22 @@ pub fn next_q(n: usize, k: f32, cos_theta: f32, q_prev1: f32, q_prev2: f32) -> f
     }
 }
 
-// Degree n, its order 0 at place i of the table, from the two degrees before.
+// Degree n, from the two degrees before. k0 and k1 are the factors of its orders.
 pub fn pole_row(
     n: usize,
-    i: usize,
-    ks: &[f32; N_LEGENDRE],
+    k0: f32,
+    k1: f32,
     cos_theta: f32,
     sin_theta: f32,
     prev1: PoleRow,
     prev2: PoleRow,
 ) -> PoleRow
-    requires { ⌜ (0 < n) × (i + 1 < N-LEGENDRE) ⌝ }
-    ensures { λ r. ⌜ r ≡ nextRow n (getD (now (ks .entry)) i nan) (getD (now (ks .entry)) (i + 1) nan) «cos_theta» «sin_theta» prev1 prev2 ⌝ }
+    requires { ⌜ 0 < n ⌝ }
+    ensures { λ r. ⌜ r ≡ nextRow n k0 k1 «cos_theta» «sin_theta» prev1 prev2 ⌝ }
 {
-    let k = ks[i + 1];
-    let r0 = gauss_norm_p_dp(
-        n,
-        0,
-        ks[i],
-        cos_theta,
-        sin_theta,
-        prev1.r0,
-        prev1.r0,
-        prev2.r0,
-    );
-    let r1 = gauss_norm_p_dp(n, 1, k, cos_theta, sin_theta, prev1.r0, prev1.r1, prev2.r1);
-    let q = next_q(n, k, cos_theta, prev1.q, prev2.q);
+    let r0 = gauss_norm_p_dp(n, 0, k0, cos_theta, sin_theta, prev1.r0, prev1.r0, prev2.r0);
+    let r1 = gauss_norm_p_dp(n, 1, k1, cos_theta, sin_theta, prev1.r0, prev1.r1, prev2.r1);
+    let q = next_q(n, k1, cos_theta, prev1.q, prev2.q);
     PoleRow { r0, r1, q }
 }
 
@@ -139,7 +129,6 @@ pub fn synthesize_near_pole(
     requires { ⌜ (length (now g) ≡ N-COEFF) × (length (now h) ≡ N-COEFF) × (length (now «g_dot») ≡ N-COEFF) × (length (now «h_dot») ≡ N-COEFF) ⌝ }
     ensures { λ r. ⌜ r ≡ nearPole (inputs rounded (lent «cos_theta» «sin_theta» «sin_lambda» «cos_lambda» ratio «time_delta» (now (g .entry)) (now (h .entry)) (now («g_dot» .entry)) (now («h_dot» .entry)))) N-MAX ⌝ }
 {
-    let ks = tables::k_table();
     let ss = tables::schmidt_table();
     let none = PDp { p: 0.0, dp: 0.0 };
     let mut prev2 = PoleRow {
@@ -152,6 +141,8 @@ pub fn synthesize_near_pole(
         r1: none,
         q: 1.0,
     };
+    let mut k0 = 0.0f32;
+    let mut k1 = 0.0f32;
     let mut a_over_r_n2 = ratio * ratio * ratio;
     let mut tot = Xyz {
         x: 0.0,
@@ -160,7 +151,7 @@ pub fn synthesize_near_pole(
     };
     for n in 1..M_LEN {
         let i = legendre_index(n, 0);
-        let row = pole_row(n, i, &ks, cos_theta, sin_theta, prev1, prev2);
+        let row = pole_row(n, k0, k1, cos_theta, sin_theta, prev1, prev2);
         let u = SinCos {
             sin: sin_lambda,
             cos: cos_lambda,
@@ -170,6 +161,8 @@ pub fn synthesize_near_pole(
         a_over_r_n2 = a_over_r_n2 * ratio;
         prev2 = prev1;
         prev1 = row;
+        k0 = tables::legendre_k(n as f32, 0.0);
+        k1 = tables::legendre_k(n as f32, 1.0);
     }
     tot
 }

@@ -1,2 +1,3 @@
--- That each contract leaves one result.
+-- Laws of the recurrence factors; that each contract leaves one result.
+pub mod Factors
 pub mod Unique

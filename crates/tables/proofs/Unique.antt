@@ -2,10 +2,10 @@
 use mathlib.Core.Path.{refl}
 use Rattle.refusals.specs.OneResult.{OneResult}
 use Rattle.tables.proofs.schmidt_table as schmidt-table-fn
-use Rattle.tables.proofs.k_table as k-table-fn
+use Rattle.tables.proofs.legendre_k as legendre-k-fn
 
 pub schmidt-table : OneResult schmidt-table-fn.Kinds.ps schmidt-table-fn.Kinds.r schmidt-table-fn.Reads.Post
 schmidt-table κs a x y u v p q = (cc, refl)
 
-pub k-table : OneResult k-table-fn.Kinds.ps k-table-fn.Kinds.r k-table-fn.Reads.Post
-k-table κs a x y u v p q = (cc, refl)
+pub legendre-k : OneResult legendre-k-fn.Kinds.ps legendre-k-fn.Kinds.r legendre-k-fn.Reads.Post
+legendre-k κs a x y u v p q = (cc, refl)

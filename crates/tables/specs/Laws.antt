@@ -1,17 +1,16 @@
 -- The table statement: one computed test a table, and one law that turns it into the rule at each entry, over the degree limit.
-use mathlib.Core.Path.{_≡_, refl, _∙_, ap, subst}
-use mathlib.Core.Bool.{Bool, true, false, _&&_}
+use mathlib.Core.Path.{_≡_, refl, subst}
+use mathlib.Core.Bool.{Bool, true, _&&_}
 use mathlib.Core.List.{List, [], _∷_, map}
 use Prim.Native.Nat.{ℕ, zero, suc, _+_, _-_, _*_, _^_, _<_}
 use native.Mathlib.Nat.{add-zero, zero-add, add-suc, suc-add, le-of-suc-le-suc, not-suc-le-zero}
-use lib.Dec.{T, eqb, leb, eqb→eq, ltb, ltb→lt}
+use lib.Dec.{T, eqb, eqb→eq, ltb, ltb→lt}
 use lib.IntN.{ℤ, pos}
 use lib.ListN.{length, getD}
-use lib.Ieee.{nan, binary32, ofBits, toBits, round, fits}
-use lib.Ieee.Bits.{ofBits-toBits}
-use lib.Ieee.Fits.{round-fits, cond-fits, and-l, and-r}
+use lib.Ieee.{nan, binary32, ofBits, toBits, round}
+use lib.Ieee.Fits.{and-l, and-r}
 use Rattle.tables.specs.Degree.{N-MAX, N-LEGENDRE, place}
-use Rattle.tables.specs.Tables.{schmidtBits, kBits, schmidtTable, kTable, schmidtAt, kAt}
+use Rattle.tables.specs.Tables.{SOURCE-MAX, schmidtBits, kBits, schmidtTable, schmidtAt}
 use Rattle.tables.specs.Rule.{kOf, factorial, central, squareNum, squareDen, units, NearestRoot, moved, misses}
 
 -- ---- a test of every number below a limit
@@ -38,22 +37,18 @@ at-place : (f : ℕ → ℕ → Bool) (N : ℕ) → T (triangle f N) → (n m : 
 unfolding triangle
 at-place f N t n m hn hm = all (f n) (suc n) (all (λ n. every (f n) 0 (suc n)) (suc N) t n hn) m hm
 
--- ---- K: every entry is the nearest f32
+-- ---- K: the source's table holds these factors, bit for bit
 unfoldable k-right : List ℕ → ℕ → ℕ → Bool
 unfolding kOf
-k-right bits n m = eqb (getD bits (place n m) 0) (toBits binary32 (kOf n m))
+k-right bits n m = eqb (toBits binary32 (kOf n m)) (getD bits (place n m) 0)
 
-kOf-fits : (n m : ℕ) → T (fits binary32 (kOf n m))
-unfolding kOf fits
-kOf-fits n m = cond-fits binary32 (leb (m + 2) n) _ _ (round-fits binary32 false _ _) tt
-
-k-law : (N : ℕ) (bits : List ℕ) → T (triangle (k-right bits) N) → (n m : ℕ) → n < suc N → m < suc n → ofBits binary32 (getD bits (place n m) 0) ≡ kOf n m
+k-law : (N : ℕ) (bits : List ℕ) → T (triangle (k-right bits) N) → (n m : ℕ) → n < suc N → m < suc n → toBits binary32 (kOf n m) ≡ getD bits (place n m) 0
 unfolding k-right
-k-law N bits t n m hn hm = ap (ofBits binary32) (eqb→eq _ _ (at-place (k-right bits) N t n m hn hm)) ∙ ofBits-toBits binary32 (kOf n m) (kOf-fits n m)
+k-law N bits t n m hn hm = eqb→eq _ _ (at-place (k-right bits) N t n m hn hm)
 
-pub k-rule : (n m : ℕ) → n < suc N-MAX → m < suc n → kAt (place n m) ≡ kOf n m
-unfolding kAt triangle k-right kBits toBits round
-k-rule n m hn hm = k-law N-MAX kBits tt n m hn hm
+pub k-stored : (n m : ℕ) → n < suc SOURCE-MAX → m < suc n → toBits binary32 (kOf n m) ≡ getD kBits (place n m) 0
+unfolding triangle k-right kBits toBits round
+k-stored n m hn hm = k-law SOURCE-MAX kBits tt n m hn hm
 
 -- ---- Schmidt: every entry, moved by its miss, is the nearest f32
 abbrev lowTest : ℕ → ℕ → ℕ → Bool
@@ -90,7 +85,7 @@ pub schmidt-rule : (n m : ℕ) → n < suc N-MAX → m < suc n → NearestRoot (
 unfolding triangle schmidt-right schmidtBits misses squareNum squareDen central factorial units ofBits
 schmidt-rule n m hn hm = schmidt-law N-MAX schmidtBits misses tt n m hn hm
 
--- ---- a table's entry by its place
+-- ---- the entry at a place
 getD-map : {A B : Type 0} (f : A → B) (xs : List A) (a : A) (b : B) (k : ℕ) → k < length xs → getD (map f xs) k b ≡ f (getD xs k a)
 getD-map f [] a b k h = absurd (not-suc-le-zero h)
 getD-map f (x ∷ xs) a b zero h = refl
@@ -99,7 +94,3 @@ getD-map f (x ∷ xs) a b (suc k) h = getD-map f xs a b k (le-of-suc-le-suc h)
 pub schmidt-entry : (i : ℕ) → i < N-LEGENDRE → getD schmidtTable i nan ≡ schmidtAt i
 unfolding schmidtTable schmidtAt schmidtBits
 schmidt-entry i h = getD-map (ofBits binary32) schmidtBits 0 nan i h
-
-pub k-entry : (i : ℕ) → i < N-LEGENDRE → getD kTable i nan ≡ kAt i
-unfolding kTable kAt kBits
-k-entry i h = getD-map (ofBits binary32) kBits 0 nan i h

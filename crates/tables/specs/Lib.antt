@@ -1,5 +1,6 @@
--- Definitions: Degree, Tables, Rule. The table statement: Laws (k-rule, schmidt-rule).
+-- Definitions: Degree, Tables, Rule, Division. The table statement: Laws (k-stored, schmidt-rule).
 pub mod Degree
 pub mod Tables
 pub mod Rule
+pub mod Division
 pub mod Laws

@@ -1,4 +1,4 @@
--- What the entries of the two tables are to be (document 01, module 1). Definitions only.
+-- The recurrence factors, and what the entries of Schmidt's table are to be (document 01, module 1). Definitions only.
 use mathlib.Core.Bool.{false, cond}
 use mathlib.Core.List.{List, [], _∷_}
 use Prim.Native.Nat.{ℕ, zero, suc, _+_, _-_, _*_, _/_, _^_, _<_}
@@ -7,7 +7,7 @@ use lib.IntN.{ℤ, pos, negsuc}
 use lib.Ieee.{Float, fin, binary32, round, ofBits}
 use Rattle.exact.specs.Exact.{unitsOf}
 
--- K: ((n - 1)^2 - m^2) / ((2n - 1)(2n - 3)) rounded once, where n ≥ 2 and m ≤ n - 2; else +0
+-- K, the recurrence factor: the f32 nearest ((n - 1)^2 - m^2) / ((2n - 1)(2n - 3)) where n ≥ 2 and m ≤ n - 2; else +0
 unfoldable pub kOf : ℕ → ℕ → Float
 kOf n m =
     cond (leb (m + 2) n)

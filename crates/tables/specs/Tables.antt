@@ -1,4 +1,4 @@
--- The two tables by their bits (the Rust crate, synthesis.rs). Definitions only.
+-- The source's two tables by their bits (the Rust crate, synthesis.rs). Definitions only.
 use Prim.Native.Nat.{ℕ}
 use mathlib.Core.List.{List, [], _∷_, map}
 use lib.ListN.{getD}
@@ -19,7 +19,7 @@ schmidtBits = 0x3f800000 ∷ 0x3f800000 ∷ 0x3f800000 ∷ 0x3fc00000 ∷ 0x3fdd
     ∷ 0x4446c84f ∷ 0x44224e22 ∷ 0x43f37533 ∷ 0x43a702bc ∷ 0x43504c85 ∷ 0x42ea1b95 ∷ 0x426a1b95 ∷ 0x41cc5893
     ∷ 0x4116eb65 ∷ 0x403203d3 ∷ 0x3f11593d ∷ []
 
--- LEGENDRE_K
+-- LEGENDRE_K: the law k-stored compares it with the factors, and nothing else reads it
 unfoldable pub kBits : List ℕ
 kBits = 0x00000000 ∷ 0x00000000 ∷ 0x00000000 ∷ 0x3eaaaaab ∷ 0x00000000 ∷ 0x00000000 ∷ 0x3e888889 ∷ 0x3e4ccccd
     ∷ 0x00000000 ∷ 0x00000000 ∷ 0x3e83a83b ∷ 0x3e6a0ea1 ∷ 0x3e124925 ∷ 0x00000000 ∷ 0x00000000 ∷ 0x3e820821
@@ -34,18 +34,15 @@ kBits = 0x00000000 ∷ 0x00000000 ∷ 0x00000000 ∷ 0x3eaaaaab ∷ 0x00000000 �
     ∷ 0x3e780cb8 ∷ 0x3e6d7304 ∷ 0x3e5e9bd3 ∷ 0x3e4b8728 ∷ 0x3e343501 ∷ 0x3e18a55e ∷ 0x3df1b07f ∷ 0x3da99b4c
     ∷ 0x3d321643 ∷ 0x00000000 ∷ 0x00000000 ∷ []
 
--- the tables as lists of floats
+-- the highest degree of the source's tables
+abbrev pub SOURCE-MAX : ℕ
+SOURCE-MAX = 12
+
+-- Schmidt's table as a list of floats
 unfoldable pub schmidtTable : List Float
 unfolding schmidtBits
 schmidtTable = map (ofBits binary32) schmidtBits
 
-unfoldable pub kTable : List Float
-unfolding kBits
-kTable = map (ofBits binary32) kBits
-
--- the entry at a place
+-- its entry at a place
 unfoldable pub schmidtAt : ℕ → Float
 schmidtAt i = ofBits binary32 (getD schmidtBits i 0)
-
-unfoldable pub kAt : ℕ → Float
-kAt i = ofBits binary32 (getD kBits i 0)

@@ -1,7 +1,9 @@
-// The two tables of the source, at place n(n+1)/2 + m. A caller takes a table once and reads it in
-// its loop: each use of a `const` array writes all its elements anew.
+// Schmidt's factors, a table at place n(n+1)/2 + m, and the recurrence factors K, each by a division.
+// A caller takes the table once and reads it in its loop: each use of a `const` array writes all its
+// elements anew.
 ghost use mathlib.Core.Path.{_≡_};
-ghost use Rattle.tables.specs.Tables.{schmidtTable, kTable};
+ghost use Rattle.tables.specs.Tables.{schmidtTable};
+ghost use Rattle.tables.specs.Division.{atLeastZero, kDivided, kDivisor};
 
 pub const N_MAX: usize = 12;
 
@@ -105,109 +107,36 @@ const SCHMIDT_SEMI_NORM: [f32; N_LEGENDRE] = [
     f32::from_bits(0x3f11593d),
 ];
 
-// The recurrence factors K, by their bits as in the source.
-const LEGENDRE_K: [f32; N_LEGENDRE] = [
-    f32::from_bits(0x00000000),
-    f32::from_bits(0x00000000),
-    f32::from_bits(0x00000000),
-    f32::from_bits(0x3eaaaaab),
-    f32::from_bits(0x00000000),
-    f32::from_bits(0x00000000),
-    f32::from_bits(0x3e888889),
-    f32::from_bits(0x3e4ccccd),
-    f32::from_bits(0x00000000),
-    f32::from_bits(0x00000000),
-    f32::from_bits(0x3e83a83b),
-    f32::from_bits(0x3e6a0ea1),
-    f32::from_bits(0x3e124925),
-    f32::from_bits(0x00000000),
-    f32::from_bits(0x00000000),
-    f32::from_bits(0x3e820821),
-    f32::from_bits(0x3e73cf3d),
-    f32::from_bits(0x3e430c31),
-    f32::from_bits(0x3de38e39),
-    f32::from_bits(0x00000000),
-    f32::from_bits(0x00000000),
-    f32::from_bits(0x3e814afd),
-    f32::from_bits(0x3e783e10),
-    f32::from_bits(0x3e59364e),
-    f32::from_bits(0x3e257eb5),
-    f32::from_bits(0x3dba2e8c),
-    f32::from_bits(0x00000000),
-    f32::from_bits(0x00000000),
-    f32::from_bits(0x3e80e526),
-    f32::from_bits(0x3e7aa11e),
-    f32::from_bits(0x3e652598),
-    f32::from_bits(0x3e4157b8),
-    f32::from_bits(0x3e0f377f),
-    f32::from_bits(0x3d9d89d9),
-    f32::from_bits(0x00000000),
-    f32::from_bits(0x00000000),
-    f32::from_bits(0x3e80a80b),
-    f32::from_bits(0x3e7c0fc1),
-    f32::from_bits(0x3e6c4ec5),
-    f32::from_bits(0x3e520d21),
-    f32::from_bits(0x3e2d4ad5),
-    f32::from_bits(0x3dfc0fc1),
-    f32::from_bits(0x3d888889),
-    f32::from_bits(0x00000000),
-    f32::from_bits(0x00000000),
-    f32::from_bits(0x3e808081),
-    f32::from_bits(0x3e7cfcfd),
-    f32::from_bits(0x3e70f0f1),
-    f32::from_bits(0x3e5cdcdd),
-    f32::from_bits(0x3e40c0c1),
-    f32::from_bits(0x3e1c9c9d),
-    f32::from_bits(0x3de0e0e1),
-    f32::from_bits(0x3d70f0f1),
-    f32::from_bits(0x00000000),
-    f32::from_bits(0x00000000),
-    f32::from_bits(0x3e806573),
-    f32::from_bits(0x3e7d9f4e),
-    f32::from_bits(0x3e741c88),
-    f32::from_bits(0x3e644293),
-    f32::from_bits(0x3e4e1170),
-    f32::from_bits(0x3e31891d),
-    f32::from_bits(0x3e0ea99c),
-    f32::from_bits(0x3dcae5d8),
-    f32::from_bits(0x3d579436),
-    f32::from_bits(0x00000000),
-    f32::from_bits(0x00000000),
-    f32::from_bits(0x3e805220),
-    f32::from_bits(0x3e7e1340),
-    f32::from_bits(0x3e76603e),
-    f32::from_bits(0x3e698b3a),
-    f32::from_bits(0x3e579436),
-    f32::from_bits(0x3e407b30),
-    f32::from_bits(0x3e244029),
-    f32::from_bits(0x3e02e321),
-    f32::from_bits(0x3db8c82e),
-    f32::from_bits(0x3d430c31),
-    f32::from_bits(0x00000000),
-    f32::from_bits(0x00000000),
-    f32::from_bits(0x3e8043d8),
-    f32::from_bits(0x3e7e68f2),
-    f32::from_bits(0x3e780cb8),
-    f32::from_bits(0x3e6d7304),
-    f32::from_bits(0x3e5e9bd3),
-    f32::from_bits(0x3e4b8728),
-    f32::from_bits(0x3e343501),
-    f32::from_bits(0x3e18a55e),
-    f32::from_bits(0x3df1b07f),
-    f32::from_bits(0x3da99b4c),
-    f32::from_bits(0x3d321643),
-    f32::from_bits(0x00000000),
-    f32::from_bits(0x00000000),
-];
-
 pub fn schmidt_table() -> [f32; N_LEGENDRE]
     ensures { λ r. ⌜ r ≡ schmidtTable ⌝ }
 {
     SCHMIDT_SEMI_NORM
 }
 
-pub fn k_table() -> [f32; N_LEGENDRE]
-    ensures { λ r. ⌜ r ≡ kTable ⌝ }
+fn not_below_zero(x: f32) -> f32
+    ensures { λ r. ⌜ r ≡ atLeastZero x ⌝ }
 {
-    LEGENDRE_K
+    if 0.0 < x { x } else { 0.0 }
+}
+
+// (2n - 1)(2n - 3), which is 4(n - 1)^2 - 1. Degree 1 has 1, so that its factors are 0 and not -0.
+fn k_divisor(square: f32) -> f32
+    ensures { λ r. ⌜ r ≡ kDivisor square ⌝ }
+{
+    if 0.0 < square {
+        4.0 * square - 1.0
+    } else {
+        1.0
+    }
+}
+
+// K, the recurrence factor of order m in degree n, from n - 1 and m as f32: one division of two whole
+// numbers. It is made of floats, and of no test but one that lanes can make, so that four run at once.
+pub fn legendre_k(below: f32, order: f32) -> f32
+    ensures { λ r. ⌜ r ≡ kDivided below order ⌝ }
+{
+    let square = below * below;
+    let top = not_below_zero(square - order * order);
+    let under = k_divisor(square);
+    top / under
 }

@@ -118,6 +118,45 @@ fn k_is_the_nearest() {
     }
 }
 
+/// The division that the library makes, from n - 1 and m; `square` is (n - 1)^2.
+fn divided(square: f32, order: f32) -> (f32, f32) {
+    let top = square - order * order;
+    let under = if 0.0 < square {
+        4.0 * square - 1.0
+    } else {
+        1.0
+    };
+    (if 0.0 < top { top } else { 0.0 }, under)
+}
+
+#[test]
+fn k_is_one_division() {
+    for n in 1..=N_MAX {
+        for m in 0..=n {
+            let below = (n - 1) as f32;
+            let (top, under) = divided(below * below, m as f32);
+            let stored = LEGENDRE_K[legendre_index(n, m)];
+            assert_eq!((top / under).to_bits(), stored.to_bits(), "{n} {m}");
+        }
+    }
+}
+
+/// What the wrong versions of that division would give.
+#[test]
+fn wrong_divisions_differ() {
+    let first = LEGENDRE_K[legendre_index(2, 0)];
+    let (top, under) = divided(1.0 * 2.0, 0.0);
+    assert_eq!(top / under, 2.0 / 7.0);
+    assert_ne!(top / under, first);
+    let (top, under) = divided(1.0, 0.0);
+    assert_eq!(under / top, 3.0);
+    assert_ne!(under / top, first);
+    let (top, under) = divided(1.0, 1.0);
+    let zero = LEGENDRE_K[legendre_index(2, 1)];
+    assert_eq!((top / under).to_bits(), zero.to_bits());
+    assert_ne!((-0.0f32 / under).to_bits(), zero.to_bits());
+}
+
 #[test]
 fn constants_by_their_bits() {
     let found = [

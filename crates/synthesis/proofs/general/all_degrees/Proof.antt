@@ -15,9 +15,6 @@ below-then-requires c κs = search needs
 below-then-requires-2 : tie.Need-below-then-requires-2
 below-then-requires-2 c κs = search needs
 
-below-then-requires-3 : tie.Need-below-then-requires-3
-below-then-requires-3 c κs = search needs
-
 start-values-requires : tie.Need-start-values-requires
 start-values-requires c κs = search needs
 
@@ -26,11 +23,10 @@ degrees-requires c κs = search needs
 
 returns : tie.Need-returns
 returns c = λ i ec es er G.
-    let v = c .before .before .before .before .before in
-    let w3 = v .before in
-    let w2 = w3 .before in
+    let v = c .before .before .before .before in
+    let w2 = v .before in
     let w1 = w2 .before in
-    c .degrees .ensures i er (v .start-values .ensures ∙ ap₂ startsOf ec es) (rw (w1 .before .orders .ensures) G) (weighed i _ _ _ _ _ ec es (w1 .below-then .ensures) (w2 .below-then2 .ensures) (w3 .below-then3 .ensures))
+    c .degrees .ensures i er (v .start-values .ensures ∙ ap₂ startsOf ec es) (rw (w1 .before .orders .ensures) G) (weighed i _ _ _ _ ec es (w1 .below-then .ensures) (w2 .below-then2 .ensures))
 
 pub all-degrees-spec : {M : Type 1} → statement M
-all-degrees-spec = tie.close (tie.spec orders-requires below-then-requires below-then-requires-2 below-then-requires-3 start-values-requires degrees-requires returns)
+all-degrees-spec = tie.close (tie.spec orders-requires below-then-requires below-then-requires-2 start-values-requires degrees-requires returns)

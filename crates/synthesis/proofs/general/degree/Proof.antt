@@ -8,25 +8,26 @@ use borrow.Author.Tests.{ltb-false, ltb-true}
 use lib.Ieee.{Float}
 use Rattle.tables.specs.Degree.{N-MAX}
 use Rattle.sums.specs.Recurrence.{Input}
-use Rattle.synthesis.specs.Code.{Given, Row, Weighed}
+use Rattle.synthesis.specs.Code.{Factors, Given, Row, Weighed}
+use Rattle.synthesis.proofs.FactorsHold.{factors-end}
 use Rattle.synthesis.proofs.GeneralSum.{added, all-terms, begin, last-term, lanes-end}
 use Rattle.synthesis.proofs.general.degree.Statement.{statement}
 use Rattle.synthesis.proofs.general.degree.Tie as tie
 
 abbrev Inv-loop : tie.InvT-loop
-Inv-loop n ks cw sw kw ss gt ht os sin cos p₀ dp₀ q last t₀ m₀ p dp t m =
+Inv-loop n ks₀ cw sw ss gt ht os sin cos p₀ dp₀ q last t₀ m₀ ks p dp t m =
     (4 * (m / 4) ≡ m) × (m ≤ N-MAX)
-    × ((i : Input Float) → Given i ks ss gt ht os sin cos → Weighed i cw sw kw → Row i n m₀ p₀ dp₀ q t₀ → Row i n m p dp q t)
+    × ((i : Input Float) → Given i ss gt ht os sin cos → Weighed i cw sw → Factors i n m₀ ks₀ → Row i n m₀ p₀ dp₀ q t₀ → Factors i n m ks × Row i n m p dp q t)
 
 abbrev μ-loop : tie.MeasureT-loop
-μ-loop n ks cw sw kw ss gt ht os sin cos p₀ dp₀ q last t₀ m₀ p dp t m = N-MAX - m
+μ-loop n ks₀ cw sw ss gt ht os sin cos p₀ dp₀ q last t₀ m₀ ks p dp t m = N-MAX - m
 
 loop-holds : tie.Need-loop-holds Inv-loop μ-loop
-loop-holds c = (search needs, search needs, λ i G W w. w)
+loop-holds c = (search needs, search needs, λ i G W F w. (F, w))
 
 four-orders-requires : tie.Need-four-orders-requires Inv-loop μ-loop
 four-orders-requires c κs =
-    let y = c .before .before .before in
+    let y = c .before .before .before .before in
     let l = y .before .before in
     let h = l .before .pre in
     let s = ltb-true (l .loop .m) N-MAX (y .if1 .taken) in
@@ -37,16 +38,16 @@ add-m c = search needs
 
 loop-less : tie.Need-loop-less Inv-loop μ-loop
 loop-less c =
-    let y = c .before .before .before .before in
+    let y = c .before .before .before .before .before in
     let s = ltb-true (y .before .before .loop .m) N-MAX (y .if1 .taken) in
     omega arith
 
 loop-again : tie.Need-loop-again Inv-loop μ-loop
 loop-again c =
-    let y = c .before .before .before .before in
+    let y = c .before .before .before .before .before in
     let l = y .before .before in
     let s = ltb-true (l .loop .m) N-MAX (y .if1 .taken) in
-    (omega (arith, l .loop .inv .0), omega (arith, l .loop .inv .0), λ i G W w. c .four-orders .ensures i G W (l .loop .inv .2 i G W w))
+    (omega (arith, l .loop .inv .0), omega (arith, l .loop .inv .0), λ i G W F w. (let u = l .loop .inv .2 i G W F w in c .four-orders .ensures i G W (u .0) (u .1)))
 
 sub-term : tie.Need-sub-term Inv-loop μ-loop
 sub-term c = search needs
@@ -64,22 +65,24 @@ add-terms-requires : tie.Need-add-terms-requires Inv-loop μ-loop
 add-terms-requires c κs = search needs
 
 returns : tie.Need-returns Inv-loop μ-loop
-returns c = λ i G W e w.
+returns c = λ i G W e s F w.
     let j = c .before .before in
     let x = j .before in
     let l = x .before in
     let n = l .before .args .n in
     let h = l .before .pre in
-    let v = l .loop .inv .2 i G W (begin i n _ _ _ w) in
-    let a : l .loop .m < N-MAX → n < l .loop .m = λ g. ⊎-elim (λ u. absurd (omega (arith, g, ltb-false (l .loop .m) N-MAX (u .1 .left)))) (λ u. u .left) (x .loop-test .came) in (
-      added i n (j .if2 .t) _
-          (all-terms i n (l .loop .m) _ _ _ _ (j .if2 .t) (omega (arith, h .1)) (l .loop .inv .1) a v
-          (⊎-elim
-          (λ u. inl (u .1 .result, u .0 .taken, u .1 .ensures ∙ last-term i _ _ _ _ _ _ _ _ _ _ G W n (h .0) (h .1) _ (u .0 .taken) e, u .4 ∙ u .3 .ensures))
-          (λ u. inr (u .0 .left, u .1))
-          (j .if2 .came)))
-          (c .add-terms .ensures i),
-      lanes-end i n (l .loop .m) _ _ _ (l .loop .inv .0) a (v .lanes),
+    let v = l .loop .inv .2 i G W F (begin i n _ _ _ _ s w) in
+    let a : l .loop .m < N-MAX → n < l .loop .m = λ g. ⊎-elim (λ u. absurd (omega (arith, g, ltb-false (l .loop .m) N-MAX (u .1 .left)))) (λ u. u .left) (x .loop-test .came) in
+    let b =
+    all-terms i n (l .loop .m) _ _ _ _ (j .if2 .t) (omega (arith, h .1)) (l .loop .inv .1) a (v .1)
+    (⊎-elim
+    (λ u. inl (u .1 .result, u .0 .taken, u .1 .ensures ∙ last-term i _ _ _ _ _ _ _ _ n G W (h .0) (h .1) _ (u .0 .taken) e, u .4 ∙ u .3 .ensures))
+    (λ u. inr (u .0 .left, u .1))
+    (j .if2 .came)) in (
+      added i n (j .if2 .t) _ (b .1) (c .add-terms .ensures i),
+      b .0,
+      factors-end i n (G .K) (l .loop .m) (l .loop .ks) a (v .0),
+      lanes-end i n (l .loop .m) _ _ _ (l .loop .inv .0) a (v .1 .lanes),
     )
 
 pub degree-spec : {M : Type 1} → statement M

@@ -13,12 +13,12 @@ use Rattle.synthesis.proofs.general.degrees.Statement.{statement}
 use Rattle.synthesis.proofs.general.degrees.Tie as tie
 
 abbrev Inv-loop : tie.InvT-loop
-Inv-loop ratio ks cw sw kw ss gt ht os sin cos last p₀ dp₀ q₀ power₀ tot₀ n₀ p dp q power tot n =
+Inv-loop ratio cw sw ss gt ht os sin cos last p₀ dp₀ ks₀ t₀ q₀ power₀ tot₀ n₀ p dp ks t q power tot n =
     (0 < n) × (n < N-MAX + 2) × Apart q
-    × ((i : Input Float) → ratio ≡ i .ratio → last ≡ pdp (start i N-MAX) → Given i ks ss gt ht os sin cos → Weighed i cw sw kw → Outer i 1 p₀ dp₀ q₀ power₀ tot₀ → Outer i n p dp q power tot)
+    × ((i : Input Float) → ratio ≡ i .ratio → last ≡ pdp (start i N-MAX) → Given i ss gt ht os sin cos → Weighed i cw sw → Outer i 1 p₀ dp₀ ks₀ t₀ q₀ power₀ tot₀ → Outer i n p dp ks t q power tot)
 
 abbrev μ-loop : tie.MeasureT-loop
-μ-loop ratio ks cw sw kw ss gt ht os sin cos last p₀ dp₀ q₀ power₀ tot₀ n₀ p dp q power tot n =
+μ-loop ratio cw sw ss gt ht os sin cos last p₀ dp₀ ks₀ t₀ q₀ power₀ tot₀ n₀ p dp ks t q power tot n =
     M-LEN - n
 
 element-copy-out-power : tie.Need-element-copy-out-power Inv-loop μ-loop
@@ -48,22 +48,22 @@ loop-less c = search needs
 loop-again : tie.Need-loop-again Inv-loop μ-loop
 loop-again c =
     let d = c .before .before in
-    let b = d .before .before .before in
+    let b = d .before .before .before .before .before in
     let l = b .before .loop in (
       search needs,
       omega (arith, b .loop-test .taken),
       rw (c .rotate-row-indices .ensures) (apart-rotate _ (l .inv .2)),
       λ i e t G W o.
           let u = l .inv .3 i e t G W o in
-          let g = d .degree .ensures i G W t (u .lanes) in
-          next-degree i (l .n) _ _ _ _ _ _ _ _ _ _ _ (l .inv .0) e u (g .0) (g .1) (c .before .add-degree .ensures) (c .rotate-row-indices .ensures),
+          let g = d .degree .ensures i G W t (u .t-sized) (u .factors) (u .lanes) in
+          next-degree i (l .n) _ _ _ _ _ _ _ _ _ _ _ _ _ _ _ (l .inv .0) e u g (c .before .add-degree .ensures) (c .rotate-row-indices .ensures),
     )
 
 returns : tie.Need-returns Inv-loop μ-loop
 returns c = λ i e t G W.
     let l = c .before .loop in
     let n : l .n - 1 ≡ N-MAX = omega arith in
-    rw n at (l .inv .3 i e (last-is i _ t) G W (outer-start i _ _ t e) .tot-is)
+    rw n at (l .inv .3 i e (last-is i _ t) G W (outer-start i _ _ (G .K) t e) .tot-is)
 
 pub degrees-spec : {M : Type 1} → statement M
 degrees-spec =

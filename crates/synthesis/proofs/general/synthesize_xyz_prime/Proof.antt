@@ -16,17 +16,14 @@ use Rattle.synthesis.proofs.general.synthesize_xyz_prime.Tie as tie
 sin-cos-m-lambda-requires : tie.Need-sin-cos-m-lambda-requires
 sin-cos-m-lambda-requires c κs = search needs
 
-k-table-requires : tie.Need-k-table-requires
-k-table-requires c κs = search needs
-
 schmidt-table-requires : tie.Need-schmidt-table-requires
 schmidt-table-requires c κs = search needs
 
-at-date-requires : tie.Need-at-date-requires
-at-date-requires c κs = search needs
+put-at-date-requires : tie.Need-put-at-date-requires
+put-at-date-requires c κs = search needs
 
-at-date-requires-2 : tie.Need-at-date-requires-2
-at-date-requires-2 c κs = search needs
+put-at-date-requires-2 : tie.Need-put-at-date-requires-2
+put-at-date-requires-2 c κs = search needs
 
 all-degrees-requires : tie.Need-all-degrees-requires
 all-degrees-requires c κs = search needs
@@ -34,17 +31,16 @@ all-degrees-requires c κs = search needs
 returns : tie.Need-returns
 unfolding inputs placed
 returns c =
-    let d2 = c .before .before .before .before .before .before .before .before .before in
-    let d1 = d2 .before in
-    let s = d1 .before in
-    let k = s .before in
-    let m = k .before in
+    let d2 = c .before .before .before .before .before .before .before .before in
+    let d1 = d2 .before .before in
+    let s = d1 .before .before in
+    let m = s .before in
     let z = m .before .before .before .before .before in
     let e = z .args in
     let a : Lent = lent (e .cos-theta) (e .sin-theta) (e .sin-lambda) (e .cos-lambda) (e .ratio) (e .time-delta) (now (e .g)) (now (e .h)) (now (e .g-dot)) (now (e .h-dot)) in
     let h = z .pre .0 in
     c .all-degrees .ensures (inputs rounded a) refl refl refl
-    (given a _ _ _ _ _ (record { g = h .0; h = h .1; g-dot = h .2; h-dot = h .3 }) (k .k-table .ensures) (s .schmidt-table .ensures) (d1 .at-date .ensures) (d2 .at-date2 .ensures) (m .sin-cos-m-lambda .ensures))
+    (given a _ _ _ _ (record { g = h .0; h = h .1; g-dot = h .2; h-dot = h .3 }) (s .schmidt-table .ensures) (d1 .put-at-date .ensures) (d2 .put-at-date2 .ensures) (m .sin-cos-m-lambda .ensures))
     ∙ lane-total (inputs rounded a) (plain a (z .pre .1) (subst T (sym (z .good .0 .1)) tt) (subst T (sym (z .good .1 .0 .1)) tt)) N-MAX (le-refl N-MAX)
 
 pub synthesize-xyz-prime-spec : {M : Type 1} → statement M
@@ -52,9 +48,8 @@ synthesize-xyz-prime-spec =
     tie.close
     (tie.spec
     sin-cos-m-lambda-requires
-    k-table-requires
     schmidt-table-requires
-    at-date-requires
-    at-date-requires-2
+    put-at-date-requires
+    put-at-date-requires-2
     all-degrees-requires
     returns)

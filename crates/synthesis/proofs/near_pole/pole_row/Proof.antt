@@ -1,9 +1,7 @@
 -- `synthesis::near_pole::pole_row` meets its contract. Assumes nothing.
 use mathlib.Core.Path.{_≡_}
-use Prim.Native.Nat.{ℕ, _+_}
-use lib.ListN.{getD}
-use lib.Ieee.{Float, nan}
-use denote.Ref.{now}
+use Prim.Native.Nat.{ℕ}
+use lib.Ieee.{Float}
 use Rattle.sums.specs.Arithmetic.{rounded}
 use Rattle.sums.specs.Recurrence.{step}
 use Rattle.synthesis.specs.declared.rows.PDp.{PDp}
@@ -22,21 +20,6 @@ row-is : (n : ℕ) (k0 k1 ct st : Float) (a b : PoleRow) (x0 x1 : PDp) (q : Floa
 unfolding nextRow
 row-is n k0 k1 ct st a b x0 x1 q e f g = rw (e, f, g)
 
-add-k : tie.Need-add-k
-add-k c = search needs
-
-mul-k : tie.Need-mul-k
-mul-k c = search needs
-
-element-copy-out-k : tie.Need-element-copy-out-k
-element-copy-out-k c = search needs
-
-mul-gauss-norm-p-dp : tie.Need-mul-gauss-norm-p-dp
-mul-gauss-norm-p-dp c = search needs
-
-element-copy-out-gauss-norm-p-dp : tie.Need-element-copy-out-gauss-norm-p-dp
-element-copy-out-gauss-norm-p-dp c = search needs
-
 gauss-norm-p-dp-requires : tie.Need-gauss-norm-p-dp-requires
 gauss-norm-p-dp-requires c κs = search needs
 
@@ -49,20 +32,11 @@ next-q-requires c κs = search needs
 returns : tie.Need-returns
 returns c =
     let b = c .before in
-    let a = b .before .before .before .before .args in
-    row-is (a .n) (getD (now (a .ks)) (a .i) nan) (getD (now (a .ks)) (a .i + 1) nan) (a .cos-theta) (a .sin-theta) (a .prev1) (a .prev2)
+    let a = b .before .before .args in
+    row-is (a .n) (a .k0) (a .k1) (a .cos-theta) (a .sin-theta) (a .prev1) (a .prev2)
     (b .before .gauss-norm-p-dp .result) (b .gauss-norm-p-dp2 .result) (c .next-q .result) (b .before .gauss-norm-p-dp .ensures) (b .gauss-norm-p-dp2 .ensures) (c .next-q .ensures)
 
 pub pole-row-spec : {M : Type 1} → statement M
 pole-row-spec =
     tie.close
-    (tie.spec
-    add-k
-    mul-k
-    element-copy-out-k
-    mul-gauss-norm-p-dp
-    element-copy-out-gauss-norm-p-dp
-    gauss-norm-p-dp-requires
-    gauss-norm-p-dp-requires-2
-    next-q-requires
-    returns)
+    (tie.spec gauss-norm-p-dp-requires gauss-norm-p-dp-requires-2 next-q-requires returns)

@@ -28,19 +28,13 @@ mul-lower-p-dp-3 c = search needs
 element-copy-out-lower-p-dp-3 : tie.Need-element-copy-out-lower-p-dp-3
 element-copy-out-lower-p-dp-3 c = search needs
 
-mul-lower-p-dp-4 : tie.Need-mul-lower-p-dp-4
-mul-lower-p-dp-4 c = search needs
-
-element-copy-out-lower-p-dp-4 : tie.Need-element-copy-out-lower-p-dp-4
-element-copy-out-lower-p-dp-4 c = search needs
-
 lower-p-dp-requires : tie.Need-lower-p-dp-requires
 lower-p-dp-requires c κs = search needs
 
 returns : tie.Need-returns
 unfolding rounded
 returns c =
-    let q = c .before .before .before .before .before in
+    let q = c .before .before .before .before in
     rw (q .p-dp-at2 .ensures, q .before .p-dp-at .ensures) at (c .lower-p-dp .ensures)
 
 pub lower-lane-spec : {M : Type 1} → statement M
@@ -55,7 +49,5 @@ lower-lane-spec =
     element-copy-out-lower-p-dp-2
     mul-lower-p-dp-3
     element-copy-out-lower-p-dp-3
-    mul-lower-p-dp-4
-    element-copy-out-lower-p-dp-4
     lower-p-dp-requires
     returns)

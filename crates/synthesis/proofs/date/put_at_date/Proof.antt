@@ -1,18 +1,20 @@
--- `synthesis::date::at_date` meets its contract. The entries below i are filled in. Assumes nothing.
+-- `synthesis::date::put_at_date` meets its contract. The entries below i are filled in. Assumes nothing.
 use mathlib.Core.Path.{_≡_, refl}
-use mathlib.Core.List.{_++_, append-nil}
+use mathlib.Core.List.{[], _++_, append-nil}
 use Prim.Native.Nat.{ℕ, _≤_, _-_}
+use native.Mathlib.Nat.{le-of-eq}
 use native.Mathlib.Omega.{arith}
 use borrow.Author.Needs.{needs}
-use lib.ListN.{getD, drop}
+use lib.ListN.{getD, drop, drop-of-length-le}
+use denote.Ref.{now}
 use lib.Ieee.{nan}
 use Rattle.tables.specs.Degree.{N-COEFF}
 use Rattle.sums.specs.Arithmetic.{rounded}
 use Rattle.sums.specs.Recurrence.{coefficient}
 use Rattle.synthesis.specs.Code.{atDate, first}
 use Rattle.synthesis.proofs.Filled.{first-next}
-use Rattle.synthesis.proofs.date.at_date.Statement.{statement}
-use Rattle.synthesis.proofs.date.at_date.Tie as tie
+use Rattle.synthesis.proofs.date.put_at_date.Statement.{statement}
+use Rattle.synthesis.proofs.date.put_at_date.Tie as tie
 
 abbrev Inv-loop : tie.InvT-loop
 Inv-loop main secular time-delta r₀ i₀ r i =
@@ -44,8 +46,8 @@ coeff-at-t-requires c κs = search needs
 mul-r : tie.Need-mul-r Inv-loop μ-loop
 mul-r c = search needs
 
-array-write-r : tie.Need-array-write-r Inv-loop μ-loop
-array-write-r c = search needs
+element-write-r : tie.Need-element-write-r Inv-loop μ-loop
+element-write-r c = search needs
 
 add-i : tie.Need-add-i Inv-loop μ-loop
 add-i c = search needs
@@ -66,10 +68,11 @@ unfolding atDate
 returns c =
     let l = c .before in
     let e : l .loop .i ≡ N-COEFF = omega arith in
-    simp (l .loop .inv .1, e, append-nil)
+    let z : drop N-COEFF (now (l .before .before .before .args .r)) ≡ [] = drop-of-length-le (now (l .before .before .before .args .r)) (le-of-eq (l .before .before .before .pre .2)) in
+    simp (l .loop .inv .1, e, z, append-nil)
 
-pub at-date-spec : {M : Type 1} → statement M
-at-date-spec =
+pub put-at-date-spec : {M : Type 1} → statement M
+put-at-date-spec =
     tie.close
     (tie.spec
     Inv-loop
@@ -81,7 +84,7 @@ at-date-spec =
     shared-slice-read-coeff-at-t-2
     coeff-at-t-requires
     mul-r
-    array-write-r
+    element-write-r
     add-i
     loop-less
     loop-again
