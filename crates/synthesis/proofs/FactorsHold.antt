@@ -15,6 +15,11 @@ use Rattle.sums.specs.Recurrence.{Input, lit}
 use Rattle.sums.proofs.Step.{less-or, same-or}
 use Rattle.synthesis.specs.Code.{Factors, nextK, putK}
 
+-- four stores
+pub put-k : (ks os : List Float) (n m : ℕ) (k0 k1 k2 k3 : Float) → k0 ≡ nextK os n m → k1 ≡ nextK os n (m + 1) → k2 ≡ nextK os n (m + 2) → k3 ≡ nextK os n (m + 3)
+    → set (set (set (set ks m k0) (m + 1) k1) (m + 2) k2) (m + 3) k3 ≡ putK ks n m os
+put-k ks os n m k0 k1 k2 k3 e0 e1 e2 e3 = rw (e0, e1, e2, e3)
+
 module _ (i : Input Float) (n : ℕ) where
   -- one lane more
   factor-put : (m m' : ℕ) (ks : List Float) (v : Float) → m < N-MAX → m' ≡ m + 1 → v ≡ i .K (n + 1) m → Factors i n m ks → Factors i n m' (set ks m v)

@@ -1,5 +1,7 @@
 -- `synthesis::lanes::put_next_k` meets its contract. Assumes nothing.
 use borrow.Author.Needs.{needs}
+use denote.Ref.{now}
+use Rattle.synthesis.proofs.FactorsHold.{put-k}
 use Rattle.synthesis.proofs.lanes.put_next_k.Statement.{statement}
 use Rattle.synthesis.proofs.lanes.put_next_k.Tie as tie
 
@@ -89,10 +91,11 @@ element-write-ks-4 c = search needs
 
 returns : tie.Need-returns
 returns c =
-    let k3 = c .before .before in
-    let k2 = k3 .before .before in
+    let k2 = c .before .before in
     let k1 = k2 .before .before in
-    rw (k1 .legendre-k .ensures, k2 .legendre-k2 .ensures, k3 .legendre-k3 .ensures, c .legendre-k4 .ensures)
+    let k0 = k1 .before .before in
+    let a = k0 .before .before .before .args in
+    put-k (now (a .ks)) (now (a .os)) (a .n) (a .m) _ _ _ _ (k0 .legendre-k .ensures) (k1 .legendre-k2 .ensures) (k2 .legendre-k3 .ensures) (c .legendre-k4 .ensures)
 
 pub put-next-k-spec : {M : Type 1} → statement M
 put-next-k-spec =
