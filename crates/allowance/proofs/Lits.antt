@@ -5,7 +5,7 @@ use lib.Ieee.{binary32, ofInt, ofBits}
 use Rattle.exact.specs.Tests.{abs}
 use Rattle.roots.proofs.Signs.{abs-clear, clear-round}
 use Rattle.sums.specs.Recurrence.{lit}
-use Rattle.synthesis.proofs.GeneralSum.{lit-zero, lit-one}
+use Rattle.exact.proofs.Wholes.{lit-one, lit-zero}
 
 pub lit-size : (m : ℕ) → lit m ≡ abs (lit m)
 unfolding lit ofInt

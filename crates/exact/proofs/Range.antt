@@ -1,14 +1,15 @@
--- A rounded fraction of size at most B is of size at most B, for a B that the format holds.
+-- A rounded fraction of size at most B is of size at most B, for a B that the format holds; nought rounds to a zero.
 use mathlib.Core.Path.{_≡_, refl, sym, ap, _∙_, subst}
 use Prim.Native.Nat.{ℕ, zero, suc, _*_, _^_, _≤_, _<_, zero-le}
-use native.Mathlib.Nat.{le-trans, le-of-eq, add-comm, mul-one, zero-mul}
+use native.Mathlib.Nat.{le-trans, le-of-eq, add-comm, mul-one, zero-mul, zero-lt-suc}
+use native.Mathlib.Omega.{arith}
 use mathlib.Core.Bool.{Bool, true, false, cond}
 use lib.IntN.{ℤ, pos}
-use lib.Dec.{T, ltb, lit<}
+use lib.Dec.{T, ltb, lit≤, lit<}
 use lib.Ieee.{Float, nan, inf, fin, binary32, up, down, odd, units, round, neg, le}
 use lib.Ieee.Fits.{round-is}
 use lib.Ieee.Order.{drop, kept, round-mono}
-use lib.Ieee.Scale.{finite}
+use lib.Ieee.Scale.{finite, round-same}
 use Rattle.exact.specs.Exact.{own}
 use Rattle.exact.proofs.Sizes.{AtMost, size-between}
 
@@ -39,19 +40,24 @@ fit-neg B (inf s) h = absurd (h .0)
 fit-neg B (fin false m e) h = (tt, le-trans (le-of-eq (add-comm 0 (m * up e))) (h .1))
 fit-neg B (fin true m e) h = (tt, le-trans (le-of-eq (add-comm (m * up e) 0)) (h .1))
 
-zero-is : round binary32 false 0 1 ≡ fin false 0 (pos 0)
+-- nought rounds to a zero
+pub round-null : (s : Bool) (a c : ℕ) → a ≡ 0 → 0 < c → round binary32 s a c ≡ fin s 0 (pos 0)
 unfolding round
-zero-is = refl
+round-null s a c e C = ap (λ (z : ℕ). round binary32 s z c) e ∙ round-same binary32 s 0 c 0 1 C (zero-lt-suc 0) (omega arith)
 
 -- the format holds B, as m * 2 ^ e
 pub record Holds (B m : ℕ) (e : ℤ) : Type 0 where
   pub is : round binary32 false B 1 ≡ fin false m e
   pub at-most : m * up e ≤ B * down e
 
+pub holds-one : Holds 1 1 (pos 0)
+unfolding round
+holds-one = record { is = refl; at-most = lit≤ tt }
+
 round-fit-pos : (B m : ℕ) (e : ℤ) (num den : ℕ) → Holds B m e → 0 < den → num ≤ B * den → Fit B (round binary32 false num den)
 round-fit-pos B m e num den b D h =
     size-between B false false 0 m (pos 0) e (round binary32 false num den) zero-le (b .at-most)
-    (subst (λ (z : Float). T (le z (round binary32 false num den))) zero-is (round-mono binary32 0 1 num den (lit< tt) D (le-trans (le-of-eq (zero-mul den)) zero-le)))
+    (subst (λ (z : Float). T (le z (round binary32 false num den))) (round-null false 0 1 refl (lit< tt)) (round-mono binary32 0 1 num den (lit< tt) D (le-trans (le-of-eq (zero-mul den)) zero-le)))
     (subst (λ (z : Float). T (le (round binary32 false num den) z)) (b .is) (round-mono binary32 num den B 1 D (lit< tt) (le-trans (le-of-eq (mul-one num)) h)))
 
 pub round-fit : (B m : ℕ) (e : ℤ) (s : Bool) (num den : ℕ) → Holds B m e → 0 < den → num ≤ B * den → Fit B (round binary32 s num den)

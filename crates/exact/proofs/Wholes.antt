@@ -1,27 +1,30 @@
--- Whole numbers up to 2 ^ 24 are f32 as they stand: products, differences and quotients of two, and whether one is above 0. Assumes nothing.
-use mathlib.Core.Path.{_≡_, sym, ap, _∙_}
+-- Whole numbers up to 2 ^ 24 are f32 as they stand: 0 and 1 as the code writes them, products, differences and quotients of two, and whether one is above 0. Assumes nothing.
+use mathlib.Core.Path.{_≡_, refl, sym, _∙_}
 use Prim.Native.Nat.{ℕ, zero, suc, _-_, _*_, _^_, _≤_, _<_}
 use native.Mathlib.Nat.{mul-one, mul-pos, mul-le-mul-right, mul-lt-mul-of-pos-right, mul-comm, mul-sub, zero-lt-suc}
 use native.Mathlib.Omega.{arith}
-use mathlib.Core.Bool.{Bool, true, false}
+use mathlib.Core.Bool.{true, false}
 use borrow.Author.Tests.{lt-ltb, le-ltb}
 use lib.Dec.{ltb, eqb·suc-zero}
 use lib.IntN.{pos}
-use lib.Ieee.{Float, nan, inf, fin, binary32, up, down, add, sub, neg, sum, mul, div, lt, ofInt, round}
+use lib.Ieee.{Float, nan, inf, fin, binary32, up, down, add, sub, neg, sum, mul, div, lt, ofBits, ofInt, round}
 use lib.Ieee.Back.{round-whole}
 use lib.Ieee.Exact.{HasValue}
 use lib.Ieee.Fits.{up-pos, down-pos}
 use lib.Ieee.Scale.{round-same}
 use Rattle.exact.specs.Exact.{lit}
 
--- nought rounds to a zero
-pub round-null : (s : Bool) (a c : ℕ) → a ≡ 0 → 0 < c → round binary32 s a c ≡ fin s 0 (pos 0)
-unfolding round
-round-null s a c e C = ap (λ (z : ℕ). round binary32 s z c) e ∙ round-same binary32 s 0 c 0 1 C (zero-lt-suc 0) (omega arith)
+pub lit-zero : ofBits binary32 0 ≡ lit 0
+unfolding lit ofInt ofBits round
+lit-zero = refl
 
-value : (a : ℕ) → a ≤ 2 ^ 24 → HasValue (lit a) false a 1
+pub lit-one : ofBits binary32 0x3f800000 ≡ lit 1
+unfolding lit ofInt ofBits round
+lit-one = refl
+
+pub whole-value : (a : ℕ) → a ≤ 2 ^ 24 → HasValue (lit a) false a 1
 unfolding lit ofInt
-value a h = round-whole binary32 false a h
+whole-value a h = round-whole binary32 false a h
 
 -- M over E is a
 own : (M E a : ℕ) → M * 1 ≡ a * E → M ≡ a * E
@@ -42,7 +45,7 @@ times (fin s m e) (fin t n d) a b v w =
 
 pub whole-product : (a b : ℕ) → a ≤ 2 ^ 24 → b ≤ 2 ^ 24 → mul binary32 (lit a) (lit b) ≡ lit (a * b)
 unfolding lit ofInt
-whole-product a b A B = times (lit a) (lit b) a b (value a A) (value b B)
+whole-product a b A B = times (lit a) (lit b) a b (whole-value a A) (whole-value b B)
 
 -- ---- the quotient
 no-zero : (u b D : ℕ) → 0 < b → 0 < D → 0 * u * 1 ≡ b * D → ⊥
@@ -62,7 +65,7 @@ over (fin s m e) (fin t (suc n) d) a b B v w =
     cross M N E D a b h k = rw (h, k) (omega arith)
 
 pub whole-quotient : (a b : ℕ) → a ≤ 2 ^ 24 → 0 < b → b ≤ 2 ^ 24 → div binary32 (lit a) (lit b) ≡ round binary32 false a b
-whole-quotient a b A B C = over (lit a) (lit b) a b B (value a A) (value b C)
+whole-quotient a b A B C = over (lit a) (lit b) a b B (whole-value a A) (whole-value b C)
 
 -- ---- the difference
 -- a times C and b times C, C above 0, lie as a and b do
@@ -98,11 +101,11 @@ less (fin s m e) (fin t n d) a b v w =
 module _ (a b : ℕ) (A : a ≤ 2 ^ 24) (B : b ≤ 2 ^ 24) where
   pub whole-difference : b ≤ a → sub binary32 (lit a) (lit b) ≡ lit (a - b)
   unfolding lit ofInt
-  whole-difference h = let l = less (lit a) (lit b) a b (value a A) (value b B) in l .2 ∙ sum-over a b (l .0) (l .1) h
+  whole-difference h = let l = less (lit a) (lit b) a b (whole-value a A) (whole-value b B) in l .2 ∙ sum-over a b (l .0) (l .1) h
 
   -- below 0
   pub whole-short : a < b → sub binary32 (lit a) (lit b) ≡ round binary32 true (b - a) 1
-  whole-short h = let l = less (lit a) (lit b) a b (value a A) (value b B) in l .2 ∙ sum-under a b (l .0) (l .1) h
+  whole-short h = let l = less (lit a) (lit b) a b (whole-value a A) (whole-value b B) in l .2 ∙ sum-under a b (l .0) (l .1) h
 
 -- ---- above 0
 above : (x : Float) (a : ℕ) → HasValue x false a 1 → lt (fin false 0 (pos 0)) x ≡ ltb 0 a
@@ -115,8 +118,9 @@ above (fin s m e) a v = rw (v .0) (go a (own (m * up e) (down e) a (v .1)))
     go zero h = rw h (le-ltb (0 * 1 * down e) (0 * down e * 1) (omega arith))
     go (suc a) h = rw h (lt-ltb (0 * 1 * down e) (suc a * down e * 1) (omega (arith, mul-pos (zero-lt-suc a) (down-pos e))) ∙ sym (lt-ltb 0 (suc a) (zero-lt-suc a)))
 
-pub whole-above : (a : ℕ) → a ≤ 2 ^ 24 → lt (fin false 0 (pos 0)) (lit a) ≡ ltb 0 a
-whole-above a h = above (lit a) a (value a h)
+pub whole-above : (a : ℕ) → a ≤ 2 ^ 24 → lt (lit 0) (lit a) ≡ ltb 0 a
+unfolding lit ofInt round
+whole-above a h = above (lit a) a (whole-value a h)
 
 -- what is below 0 is not
 under : (x : Float) (a : ℕ) → HasValue x true a 1 → lt (fin false 0 (pos 0)) x ≡ false
@@ -125,5 +129,6 @@ under nan a v = absurd v
 under (inf s) a v = absurd v
 under (fin s m e) a v = rw (v .0)
 
-pub short-not-above : (a : ℕ) → a ≤ 2 ^ 24 → lt (fin false 0 (pos 0)) (round binary32 true a 1) ≡ false
+pub short-not-above : (a : ℕ) → a ≤ 2 ^ 24 → lt (lit 0) (round binary32 true a 1) ≡ false
+unfolding lit ofInt round
 short-not-above a h = under (round binary32 true a 1) a (round-whole binary32 true a h)

@@ -26,19 +26,19 @@ fn check_entries(list: u8, s: &[f32], cap: f32) -> Verdict
     Verdict::Accepted
 }
 
-// No early exit, so that it runs by lanes.
+// No early exit, so that it runs by lanes; and a flag as wide as an entry, so that no lane is narrowed.
 fn all_within(s: &[f32], cap: f32) -> bool
     ensures { λ r. ⌜ r ≡ all-between (neg cap) cap (now (s .entry)) ⌝ }
 {
-    let mut ok = true;
+    let mut bad = 0u32;
     let mut i = 0usize;
     while i < s.len() {
         if float32::outside(s[i], -cap, cap) {
-            ok = false;
+            bad = 1;
         }
         i += 1;
     }
-    ok
+    bad == 0
 }
 
 fn lists_within(g: &[f32], h: &[f32], g_dot: &[f32], h_dot: &[f32]) -> bool

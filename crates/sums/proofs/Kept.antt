@@ -15,7 +15,7 @@ use lib.Ieee.Scale.{finite}
 use Rattle.exact.proofs.Round.{in-units, low-enough, whole-units}
 use Rattle.sums.specs.Recurrence.{lit}
 use Rattle.sums.specs.Same.{Same, null, same}
-use Rattle.exact.proofs.Wholes.{round-null}
+use Rattle.exact.proofs.Range.{round-null}
 use Rattle.sums.proofs.SameLaws.{add-left, add-right, by-same, gone}
 
 -- ---- two numbers of the format with one sign and one value are one

@@ -10,7 +10,7 @@ use lib.Ieee.{Float, nan, inf, fin, binary32, up, down, round, sum, add, sub, mu
 use lib.Ieee.Fits.{up-pos, down-pos}
 use lib.Ieee.Scale.{finite}
 use Rattle.exact.specs.Tests.{abs}
-use Rattle.exact.proofs.Wholes.{round-null}
+use Rattle.exact.proofs.Range.{round-null}
 use Rattle.sums.specs.Arithmetic.{rounded}
 use Rattle.sums.specs.Same.{Same, null, same, zeros}
 use Rattle.sums.proofs.Related.{Related}

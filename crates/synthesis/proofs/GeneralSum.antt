@@ -9,7 +9,8 @@ use borrow.Author.Tests.{le-ltb, lt-ltb}
 use lib.Dec.{ltb}
 use mathlib.Core.Bool.{cond}
 use lib.ListN.{getD, length, replicate, getD-replicate}
-use lib.Ieee.{Float, nan, binary32, mul, ofInt, ofBits, round}
+use lib.Ieee.{Float, nan, binary32, mul, ofBits}
+use Rattle.exact.proofs.Wholes.{lit-one, lit-zero}
 use Rattle.tables.specs.Tables.{schmidtAt, schmidtTable}
 use Rattle.tables.specs.Degree.{M-LEN, N-COEFF, N-LEGENDRE, N-MAX, place}
 use Rattle.synthesis.specs.declared.rows.Four.{Four}
@@ -31,15 +32,6 @@ use Rattle.synthesis.proofs.PlaceSizes.{least, most}
 use Rattle.tables.specs.Laws.{schmidt-entry}
 use Rattle.tables.specs.Rule.{kOf}
 use Rattle.synthesis.proofs.FactorsHold.{factors-start, factors-turn}
-
--- ---- 0 and 1 as the code writes them
-pub lit-zero : ofBits binary32 0 ≡ lit 0
-unfolding lit ofInt ofBits round
-lit-zero = refl
-
-pub lit-one : ofBits binary32 0x3f800000 ≡ lit 1
-unfolding lit ofInt ofBits round
-lit-one = refl
 
 -- ---- lent lists by degree and order
 get-any : {A : Type 0} (l : List A) (k : ℕ) (d e : A) → k < length l → getD l k d ≡ getD l k e

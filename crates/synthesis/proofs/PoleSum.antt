@@ -21,7 +21,8 @@ use Rattle.sums.specs.Recurrence.{Input, dpsn, legendre, lit, pole-angle, pole-
 use Rattle.sums.specs.Paths.{POLE-ORDERS, placed}
 use Rattle.synthesis.specs.Sum.{Lent, inputs}
 use Rattle.synthesis.specs.Code.{addPoleDegree, ghAt, nearPole, nextQ, nextRow, pdp, poleParts, termOf}
-use Rattle.synthesis.proofs.GeneralSum.{Long, g-read, h-read, lit-one, lit-zero, s-place}
+use Rattle.exact.proofs.Wholes.{lit-one, lit-zero}
+use Rattle.synthesis.proofs.GeneralSum.{Long, g-read, h-read, s-place}
 use Rattle.synthesis.proofs.PlaceSizes.{most}
 
 -- what degree n hands on, and what the degree before it did; before degree 0 the recurrence reads 0

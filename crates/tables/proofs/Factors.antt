@@ -12,9 +12,9 @@ use lib.ListN.{getD}
 use lib.Ieee.{fin, binary32, ofBits, ofInt, sub, toBits, lt, round}
 use lib.Ieee.Scale.{finite}
 use Rattle.exact.specs.Exact.{lit, own}
-use Rattle.exact.proofs.Range.{Holds, round-fit}
+use Rattle.exact.proofs.Range.{holds-one, round-fit, round-null}
 use Rattle.exact.proofs.Sizes.{AtMost}
-use Rattle.exact.proofs.Wholes.{round-null, short-not-above, whole-above, whole-difference, whole-product, whole-quotient, whole-short}
+use Rattle.exact.proofs.Wholes.{lit-one, lit-zero, short-not-above, whole-above, whole-difference, whole-product, whole-quotient, whole-short}
 use Rattle.tables.specs.Degree.{place}
 use Rattle.tables.specs.Tables.{SOURCE-MAX, kBits}
 use Rattle.tables.specs.Laws.{k-stored}
@@ -34,24 +34,12 @@ divisors (suc n) h =
     rw (a, b) (omega arith)
 
 -- ---- the steps of the code on whole numbers
-zero-is : ofBits binary32 0 ≡ fin false 0 (pos 0)
-unfolding ofBits
-zero-is = refl
-
-one-is : ofBits binary32 0x3f800000 ≡ lit 1
+lit-four : ofBits binary32 0x40800000 ≡ lit 4
 unfolding lit ofBits ofInt round
-one-is = refl
-
-four-is : ofBits binary32 0x40800000 ≡ lit 4
-unfolding lit ofBits ofInt round
-four-is = refl
-
-null-is : lit 0 ≡ fin false 0 (pos 0)
-unfolding lit ofInt round
-null-is = refl
+lit-four = refl
 
 module _ (a b : ℕ) (A : a ≤ 2 ^ 24) (B : b ≤ 2 ^ 24) where
-  not-above : a ≤ b → lt (fin false 0 (pos 0)) (sub binary32 (lit a) (lit b)) ≡ false
+  not-above : a ≤ b → lt (lit 0) (sub binary32 (lit a) (lit b)) ≡ false
   not-above h = elim (eq-or-lt-of-le h) [
     | inl e ↦ rw (whole-difference a b A B (le-of-eq (sym e)), whole-above (a - b) (omega arith)) (le-ltb 0 (a - b) (omega arith))
     | inr l ↦ rw (whole-short a b A B l) (short-not-above (b - a) (omega arith))
@@ -65,11 +53,11 @@ module _ (a b : ℕ) (A : a ≤ 2 ^ 24) (B : b ≤ 2 ^ 24) where
       go : (t : Bool) → ltb b a ≡ t → cond (lt (ofBits binary32 0) (sub binary32 (lit a) (lit b))) (sub binary32 (lit a) (lit b)) (ofBits binary32 0) ≡ lit (a - b)
       go true e =
           let h = ltb-true b a e in
-          rw (zero-is, whole-difference a b A B (le-of-lt h), whole-above (a - b) (omega arith), lt-ltb 0 (a - b) (omega arith)) refl
+          rw (lit-zero, whole-difference a b A B (le-of-lt h), whole-above (a - b) (omega arith), lt-ltb 0 (a - b) (omega arith)) refl
       go false e =
           let h = ltb-false b a e in
           let z : a - b ≡ 0 = omega arith in
-          rw (zero-is, not-above h, z) (sym null-is)
+          rw (lit-zero, not-above h, z) refl
 
 -- the divisor of the code, by (n - 1)^2
 abbrev divisor : ℕ → ℕ
@@ -82,10 +70,10 @@ positive (suc a) h = refl
 
 divisor-is : (a : ℕ) → a ≤ 2 ^ 22 → kDivisor (lit a) ≡ lit (divisor a)
 unfolding kDivisor
-divisor-is zero h = rw (zero-is, whole-above 0 zero-le) one-is
+divisor-is zero h = rw (lit-zero, whole-above 0 zero-le) lit-one
 divisor-is (suc a) h =
     let u : suc a ≤ 2 ^ 24 = omega arith in
-    rw (zero-is, one-is, four-is, whole-above (suc a) u, lt-ltb 0 (suc a) (zero-lt-suc a), whole-product 4 (suc a) (lit≤ tt) u)
+    rw (lit-zero, lit-one, lit-four, whole-above (suc a) u, lt-ltb 0 (suc a) (zero-lt-suc a), whole-product 4 (suc a) (lit≤ tt) u)
     (whole-difference (4 * suc a) 1 (omega arith) (lit≤ tt) (omega arith))
 
 divisor-fine : (a : ℕ) → a ≤ 2 ^ 22 → (0 < divisor a) × (divisor a ≤ 2 ^ 24)
@@ -130,10 +118,6 @@ unfolding kOf
 k-zero n m h = rw (lt-leb (m + 2) n h)
 
 -- ---- it is finite, and at most 1
-one-holds : Holds 1 1 (pos 0)
-unfolding round
-one-holds = record { is = refl; at-most = lit≤ tt }
-
 -- its fraction is of numbers above 0, the upper at most the lower
 below-one : (n m : ℕ) → 2 ≤ n → (0 < (2 * n - 1) * (2 * n - 3)) × ((n - 1) * (n - 1) - m * m ≤ 1 * ((2 * n - 1) * (2 * n - 3)))
 below-one n m h =
@@ -150,5 +134,5 @@ k-small n m = go (leb (m + 2) n) (leb→le (m + 2) n)
     go : (t : Bool) → (T t → m + 2 ≤ n)
         → T (finite (cond t (round binary32 false ((n - 1) * (n - 1) - m * m) ((2 * n - 1) * (2 * n - 3))) (fin false 0 (pos 0))))
         × AtMost 1 (cond t (round binary32 false ((n - 1) * (n - 1) - m * m) ((2 * n - 1) * (2 * n - 3))) (fin false 0 (pos 0)))
-    go true l = let f = below-one n m (le-trans (omega arith) (l tt)) in round-fit 1 1 (pos 0) false _ _ one-holds (f .0) (f .1)
+    go true l = let f = below-one n m (le-trans (omega arith) (l tt)) in round-fit 1 1 (pos 0) false _ _ holds-one (f .0) (f .1)
     go false l = (tt, lit≤ tt)

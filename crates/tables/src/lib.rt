@@ -131,7 +131,7 @@ fn k_divisor(square: f32) -> f32
 }
 
 // K, the recurrence factor of order m in degree n, from n - 1 and m as f32: one division of two whole
-// numbers. It is made of floats, and of no test but one that lanes can make, so that four run at once.
+// numbers. It is made of floats, and its two tests only choose a number, so that four lanes run at once.
 pub fn legendre_k(below: f32, order: f32) -> f32
     ensures { λ r. ⌜ r ≡ kDivided below order ⌝ }
 {

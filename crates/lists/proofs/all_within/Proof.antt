@@ -1,9 +1,10 @@
--- `lists::all_within` meets its contract. `ok` says that the entries below i are within the cap. Assumes nothing.
+-- `lists::all_within` meets its contract. `bad` is 0 as long as the entries below i are within the cap. Assumes nothing.
 use mathlib.Core.Path.{_≡_, refl, sym, _∙_}
 use mathlib.Core.Bool.{_&&_}
 use mathlib.Core.Logic.{⊎-elim}
 use Prim.Native.Nat.{_≤_, _<_, _-_}
 use borrow.Author.Needs.{needs}
+use lib.Dec.{eqb}
 use lib.ListN.{length, drop, drop-of-length-le}
 use lib.Ieee.{neg}
 use Rattle.exact.specs.Tests.{all-between}
@@ -12,11 +13,11 @@ use Rattle.lists.proofs.all_within.Statement.{statement}
 use Rattle.lists.proofs.all_within.Tie as tie
 
 abbrev Inv-loop : tie.InvT-loop
-Inv-loop s cap ok₀ i₀ ok i =
-    (i ≤ length s) × (all-between (neg cap) cap s ≡ ok && all-between (neg cap) cap (drop i s))
+Inv-loop s cap bad₀ i₀ bad i =
+    (i ≤ length s) × (all-between (neg cap) cap s ≡ eqb bad 0 && all-between (neg cap) cap (drop i s))
 
 abbrev μ-loop : tie.MeasureT-loop
-μ-loop s cap ok₀ i₀ ok i =
+μ-loop s cap bad₀ i₀ bad i =
     length s - i
 
 loop-holds : tie.Need-loop-holds Inv-loop μ-loop
@@ -45,8 +46,8 @@ loop-again c =
     let h : l .loop .i < length (a .s .now) = search needs in (
       search needs,
       ⊎-elim
-          (λ w. rw (w .1) (bad-all (neg (a .cap)) (a .cap) (a .s .now) (l .loop .i) (l .loop .ok) _ h (l .loop .inv .1) (sym (o .outside .ensures) ∙ w .0 .taken)))
-          (λ w. rw (w .1) (good-next (neg (a .cap)) (a .cap) (a .s .now) (l .loop .i) (l .loop .ok) _ h (l .loop .inv .1) (sym (o .outside .ensures) ∙ w .0 .left)))
+          (λ w. rw (w .1) (bad-all (neg (a .cap)) (a .cap) (a .s .now) (l .loop .i) (eqb (l .loop .bad) 0) _ h (l .loop .inv .1) (sym (o .outside .ensures) ∙ w .0 .taken)))
+          (λ w. rw (w .1) (good-next (neg (a .cap)) (a .cap) (a .s .now) (l .loop .i) (eqb (l .loop .bad) 0) _ h (l .loop .inv .1) (sym (o .outside .ensures) ∙ w .0 .left)))
           (c .if1 .came),
     )
 
@@ -55,7 +56,7 @@ unfolding all-between
 returns c =
     let l = c .before in
     let a = l .before .before .args in
-    sym (l .loop .inv .1 ∙ rw (drop-of-length-le (a .s .now) {i = l .loop .i} (search needs)) (and-true (l .loop .ok)))
+    sym (l .loop .inv .1 ∙ rw (drop-of-length-le (a .s .now) {i = l .loop .i} (search needs)) (and-true (eqb (l .loop .bad) 0)))
 
 pub all-within-spec : {M : Type 1} → statement M
 all-within-spec =

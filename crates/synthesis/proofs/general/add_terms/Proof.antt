@@ -8,7 +8,7 @@ use lib.Ieee.{Float}
 use Rattle.sums.specs.Arithmetic.{rounded}
 use Rattle.sums.specs.Recurrence.{Input, total}
 use Rattle.synthesis.specs.Code.{cell}
-use Rattle.synthesis.proofs.GeneralSum.{lit-zero}
+use Rattle.exact.proofs.Wholes.{lit-zero}
 use Rattle.synthesis.proofs.general.add_terms.Statement.{statement}
 use Rattle.synthesis.proofs.general.add_terms.Tie as tie
 

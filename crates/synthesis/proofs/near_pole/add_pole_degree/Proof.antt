@@ -4,7 +4,7 @@ use native.Mathlib.Omega.{arith}
 use lib.Dec.{le→leb}
 use lib.Ieee.{inFloat}
 use mathlib.Core.Path.{refl}
-use Rattle.synthesis.proofs.GeneralSum.{lit-one}
+use Rattle.exact.proofs.Wholes.{lit-one}
 use Rattle.sums.specs.Arithmetic.{rounded}
 use Rattle.sums.specs.Recurrence.{lit}
 use Rattle.synthesis.specs.Code.{addPoleDegree}
