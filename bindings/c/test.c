@@ -171,6 +171,28 @@ static void test_lengths(void) {
     }
 }
 
+/* Every entry of every list: at its cap it is taken; a step above it, or where it is no number, it is
+ * refused by its place. The compiled check runs by lanes, so a place may be its own code. */
+static void test_entries(void) {
+    static const float caps[] = {65536.0f, 65536.0f, 4096.0f, 4096.0f};
+    for (size_t i = 0; i < 4; i++) {
+        const float above = nextafterf(caps[i], INFINITY);
+        const float over[] = {NAN, -NAN, INFINITY, -INFINITY, above, -above};
+        for (size_t j = 0; j < N; j++) {
+            struct field q = question();
+            q.lists[i][j] = caps[i];
+            CHECK(ask_sum(&q, 1.0f, 0.0f) == 0);
+            q.lists[i][j] = -caps[i];
+            CHECK(ask_sum(&q, 1.0f, 0.0f) == 0);
+            for (size_t k = 0; k < sizeof over / sizeof *over; k++) {
+                q.lists[i][j] = over[k];
+                q.entry[0] = q.entry[1] = HELD_SIZE;
+                CHECK(ask_sum(&q, 1.0f, 0.0f) == 7 && q.entry[0] == i && q.entry[1] == j);
+            }
+        }
+    }
+}
+
 /* The published sets bring their own year: each answers for the days of its epoch, and is refused on
  * the other's. */
 static void test_published(void) {
@@ -283,6 +305,7 @@ int main(void) {
     test_sum();
     test_places_apart();
     test_lengths();
+    test_entries();
     test_published();
     test_uncertainty();
     test_epoch();

@@ -151,6 +151,7 @@ fn wrong_divisions_differ() {
     let (top, under) = divided(1.0, 0.0);
     assert_eq!(under / top, 3.0);
     assert_ne!(under / top, first);
+    assert_ne!(1.0 / (3.0 * 1.0 - 1.0), first);
     let (top, under) = divided(1.0, 1.0);
     let zero = LEGENDRE_K[legendre_index(2, 1)];
     assert_eq!((top / under).to_bits(), zero.to_bits());
