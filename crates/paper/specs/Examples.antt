@@ -16,9 +16,7 @@ use Rattle.models.specs.Records.{figureOk, figuresOk, figuresSays, listedErrors
 use Rattle.models.specs.Errors.{errors2025, errorSays}
 use Rattle.tables.specs.Degree.{N-COEFF, place}
 use Rattle.tables.specs.Tables.{schmidtAt, schmidtBits}
-use Rattle.tables.specs.Rule.{kOf}
-use Rattle.tables.specs.Rule.{misses}
-use Rattle.tables.specs.Laws.{mended}
+use Rattle.tables.specs.Rule.{kOf, mended, misses}
 use Rattle.synthesis.specs.declared.Xyz.{Xyz}
 use Rattle.sums.specs.Arithmetic.{rounded}
 use Rattle.sums.specs.Recurrence.{angle, coefficient, dpsn, gc-hs, gs-hc, legendre, lit, pole-angle, pole-gc, pole-gs, pole-x, pole-x-row, pole-y, pole-z, pole-z-row, power, psn, quotient, step, total, x-row, x-sum, y-row, y-sum, z-row, z-sum}

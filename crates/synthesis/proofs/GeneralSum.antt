@@ -29,7 +29,7 @@ use Rattle.sums.proofs.Step.{less-or, same-or}
 use Rattle.synthesis.proofs.RowsHold.{apart-rotate, put-other, put-row, put-same, put-sized, term-other, term-same, term-sized}
 use Rattle.synthesis.proofs.Filled.{date-get, first-get}
 use Rattle.synthesis.proofs.PlaceSizes.{least, most}
-use Rattle.tables.specs.Laws.{schmidt-entry}
+use Rattle.tables.proofs.Laws.{schmidt-entry}
 use Rattle.tables.specs.Rule.{kOf}
 use Rattle.synthesis.proofs.FactorsHold.{factors-start, factors-turn}
 

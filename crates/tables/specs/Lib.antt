@@ -1,6 +1,5 @@
--- Definitions: Degree, Tables, Rule, Division. The table statement: Laws (k-stored, schmidt-rule).
+-- Definitions: the degree and its places, the source's bits, what each entry is to be, how a factor is divided.
 pub mod Degree
 pub mod Tables
 pub mod Rule
 pub mod Division
-pub mod Laws

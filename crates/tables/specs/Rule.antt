@@ -4,8 +4,10 @@ use mathlib.Core.List.{List, [], _∷_}
 use Prim.Native.Nat.{ℕ, zero, suc, _+_, _-_, _*_, _/_, _^_, _<_}
 use lib.Dec.{eqb, leb}
 use lib.IntN.{ℤ, pos, negsuc}
+use lib.ListN.{getD}
 use lib.Ieee.{Float, fin, binary32, round, ofBits}
 use Rattle.exact.specs.Exact.{unitsOf}
+use Rattle.tables.specs.Degree.{place}
 
 -- K, the recurrence factor: the f32 nearest ((n - 1)^2 - m^2) / ((2n - 1)(2n - 3)) where n ≥ 2 and m ≤ n - 2; else +0
 unfoldable pub kOf : ℕ → ℕ → Float
@@ -14,6 +16,7 @@ kOf n m =
     (round binary32 false ((n - 1) * (n - 1) - m * m) ((2 * n - 1) * (2 * n - 3)))
     (fin false 0 (pos 0))
 
+-- n!
 unfoldable pub factorial : ℕ → ℕ
 factorial zero = 1
 factorial (suc n) = suc n * factorial n
@@ -42,6 +45,10 @@ pub record NearestRoot (num den b : ℕ) : Type 0 where
 abbrev pub moved : ℕ → ℤ → ℕ
 moved b (pos k) = b + k
 moved b (negsuc k) = b - suc k
+
+-- the stored pattern of degree n and order m, moved by its miss
+abbrev pub mended : List ℕ → List ℤ → ℕ → ℕ → ℕ
+mended bits steps n m = moved (getD bits (place n m) 0) (getD steps (place n m) (pos 0))
 
 -- by how many steps the nearest f32 lies above the stored one
 unfoldable pub misses : List ℤ

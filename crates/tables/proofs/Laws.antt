@@ -1,17 +1,17 @@
--- The table statement: one computed test a table, and one law that turns it into the rule at each entry, over the degree limit.
+-- The table statement: one computed test a table, and one law that turns it into the rule at each entry, over the degree limit. Assumes nothing.
 use mathlib.Core.Path.{_≡_, refl, subst}
 use mathlib.Core.Bool.{Bool, true, _&&_}
 use mathlib.Core.List.{List, [], _∷_, map}
 use Prim.Native.Nat.{ℕ, zero, suc, _+_, _-_, _*_, _^_, _<_}
 use native.Mathlib.Nat.{add-zero, zero-add, add-suc, suc-add, le-of-suc-le-suc, not-suc-le-zero}
 use lib.Dec.{T, eqb, eqb→eq, ltb, ltb→lt}
-use lib.IntN.{ℤ, pos}
+use lib.IntN.{ℤ}
 use lib.ListN.{length, getD}
 use lib.Ieee.{nan, binary32, ofBits, toBits, round}
 use lib.Ieee.Fits.{and-l, and-r}
 use Rattle.tables.specs.Degree.{N-MAX, N-LEGENDRE, place}
 use Rattle.tables.specs.Tables.{SOURCE-MAX, schmidtBits, kBits, schmidtTable, schmidtAt}
-use Rattle.tables.specs.Rule.{kOf, factorial, central, squareNum, squareDen, units, NearestRoot, moved, misses}
+use Rattle.tables.specs.Rule.{kOf, factorial, central, squareNum, squareDen, units, NearestRoot, mended, misses}
 
 -- ---- a test of every number below a limit
 -- the test f passes at i, i + 1, .., i + n - 1
@@ -67,10 +67,6 @@ rooted-is num den b t =
       above = ltb→lt _ _ (and-l (lowTest num den b) (highTest num den b) t);
       below = ltb→lt _ _ (and-r (lowTest num den b) (highTest num den b) t);
     }
-
--- the stored pattern at n, m, moved by its miss
-abbrev pub mended : List ℕ → List ℤ → ℕ → ℕ → ℕ
-mended bits steps n m = moved (getD bits (place n m) 0) (getD steps (place n m) (pos 0))
 
 unfoldable schmidt-right : List ℕ → List ℤ → ℕ → ℕ → Bool
 unfolding rooted
