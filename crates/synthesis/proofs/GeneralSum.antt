@@ -3,7 +3,7 @@ use mathlib.Core.Path.{_≡_, refl, sym, ap, ap₂, _∙_}
 use mathlib.Core.Logic.{_⊎_, ⊎-elim}
 use mathlib.Core.List.{List, [], _∷_}
 use Prim.Native.Nat.{ℕ, zero, suc, _+_, _*_, _-_, _/_, _<_, _≤_}
-use native.Mathlib.Nat.{not-suc-le-zero, le-of-suc-le-suc}
+use native.Mathlib.Nat.{not-suc-le-zero}
 use native.Mathlib.Omega.{arith}
 use borrow.Author.Tests.{le-ltb, lt-ltb}
 use lib.Dec.{ltb}
@@ -29,16 +29,11 @@ use Rattle.sums.proofs.Step.{less-or, same-or}
 use Rattle.synthesis.proofs.RowsHold.{apart-rotate, put-other, put-row, put-same, put-sized, term-other, term-same, term-sized}
 use Rattle.synthesis.proofs.Filled.{date-get, first-get}
 use Rattle.synthesis.proofs.PlaceSizes.{least, most}
-use Rattle.tables.proofs.Laws.{schmidt-entry}
+use Rattle.tables.proofs.TableStatement.{get-any, schmidt-entry}
 use Rattle.tables.specs.Rule.{kOf}
 use Rattle.synthesis.proofs.FactorsHold.{factors-start, factors-turn}
 
 -- ---- lent lists by degree and order
-get-any : {A : Type 0} (l : List A) (k : ℕ) (d e : A) → k < length l → getD l k d ≡ getD l k e
-get-any [] k d e h = absurd (not-suc-le-zero h)
-get-any (x ∷ l) zero d e h = refl
-get-any (x ∷ l) (suc k) d e h = get-any l k d e (le-of-suc-le-suc h)
-
 pub at-read : (l : List Float) (n m j : ℕ) → length l ≡ N-COEFF → 0 < n → n < M-LEN → m ≤ n → j ≡ place n m - 1 → getD l j nan ≡ at l n m
 at-read l n m j e z hn hm ej = rw ej (get-any l (place n m - 1) nan nought (omega (arith, most n hn, least n z)))
 

@@ -19,7 +19,7 @@ use Rattle.tables.specs.Degree.{place}
 use Rattle.tables.specs.Tables.{SOURCE-MAX, kBits}
 use Rattle.tables.specs.Rule.{kOf}
 use Rattle.tables.specs.Division.{atLeastZero, kDivided, kDivisor}
-use Rattle.tables.proofs.Laws.{k-stored}
+use Rattle.tables.proofs.TableStatement.{k-stored}
 
 -- ---- the fraction of degree n + 1: (n^2 - m^2) / (4n^2 - 1)
 -- its two parts, as the rule has them

@@ -1,4 +1,4 @@
--- The table statement (k-stored, schmidt-rule); laws of the recurrence factors; that each contract leaves one result.
-pub mod Laws
+-- The table statement (k-stored, k-entries, schmidt-rule); laws of the recurrence factors; that each contract leaves one result.
+pub mod TableStatement
 pub mod Factors
 pub mod Unique

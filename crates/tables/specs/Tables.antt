@@ -19,7 +19,7 @@ schmidtBits = 0x3f800000 ∷ 0x3f800000 ∷ 0x3f800000 ∷ 0x3fc00000 ∷ 0x3fdd
     ∷ 0x4446c84f ∷ 0x44224e22 ∷ 0x43f37533 ∷ 0x43a702bc ∷ 0x43504c85 ∷ 0x42ea1b95 ∷ 0x426a1b95 ∷ 0x41cc5893
     ∷ 0x4116eb65 ∷ 0x403203d3 ∷ 0x3f11593d ∷ []
 
--- LEGENDRE_K: the laws k-stored and division-stored compare the factors with it; no code and no contract reads it
+-- LEGENDRE_K: the laws k-stored and division-stored compare the factors with it, k-entries counts it; no code and no contract reads it
 unfoldable pub kBits : List ℕ
 kBits = 0x00000000 ∷ 0x00000000 ∷ 0x00000000 ∷ 0x3eaaaaab ∷ 0x00000000 ∷ 0x00000000 ∷ 0x3e888889 ∷ 0x3e4ccccd
     ∷ 0x00000000 ∷ 0x00000000 ∷ 0x3e83a83b ∷ 0x3e6a0ea1 ∷ 0x3e124925 ∷ 0x00000000 ∷ 0x00000000 ∷ 0x3e820821

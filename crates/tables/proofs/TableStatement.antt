@@ -1,12 +1,12 @@
--- The table statement: one computed test a table, and one law that turns it into the rule at each entry, over the degree limit. Assumes nothing.
-use mathlib.Core.Path.{_≡_, refl, subst}
+-- The table statement: one computed test a table, and one law that turns it into the rule at each entry, over the degree limit; an entry by its place. Assumes nothing.
+use mathlib.Core.Path.{_≡_, refl, subst, _∙_}
 use mathlib.Core.Bool.{Bool, true, _&&_}
 use mathlib.Core.List.{List, [], _∷_, map}
 use Prim.Native.Nat.{ℕ, zero, suc, _+_, _-_, _*_, _^_, _<_}
 use native.Mathlib.Nat.{add-zero, zero-add, add-suc, suc-add, le-of-suc-le-suc, not-suc-le-zero}
 use lib.Dec.{T, eqb, eqb→eq, ltb, ltb→lt}
 use lib.IntN.{ℤ}
-use lib.ListN.{length, getD}
+use lib.ListN.{length, getD, List·getD-map}
 use lib.Ieee.{nan, binary32, ofBits, toBits, round}
 use lib.Ieee.Fits.{and-l, and-r}
 use Rattle.tables.specs.Degree.{N-MAX, N-LEGENDRE, place}
@@ -50,6 +50,11 @@ pub k-stored : (n m : ℕ) → n < suc SOURCE-MAX → m < suc n → toBits binar
 unfolding triangle k-right kBits toBits round
 k-stored n m hn hm = k-law SOURCE-MAX kBits tt n m hn hm
 
+-- and it has no other entry, nor one too few: beyond its end `k-stored` would read 0, which is a factor too
+pub k-entries : length kBits ≡ place (SOURCE-MAX + 1) 0
+unfolding kBits
+k-entries = refl
+
 -- ---- Schmidt: every entry, moved by its miss, is the nearest f32
 abbrev lowTest : ℕ → ℕ → ℕ → Bool
 lowTest num den b = ltb (den * ((units (b - 1) + units b) * (units (b - 1) + units b))) (4 * num * 2 ^ 298)
@@ -82,11 +87,12 @@ unfolding triangle schmidt-right schmidtBits misses squareNum squareDen central 
 schmidt-rule n m hn hm = schmidt-law N-MAX schmidtBits misses tt n m hn hm
 
 -- ---- the entry at a place
-getD-map : {A B : Type 0} (f : A → B) (xs : List A) (a : A) (b : B) (k : ℕ) → k < length xs → getD (map f xs) k b ≡ f (getD xs k a)
-getD-map f [] a b k h = absurd (not-suc-le-zero h)
-getD-map f (x ∷ xs) a b zero h = refl
-getD-map f (x ∷ xs) a b (suc k) h = getD-map f xs a b k (le-of-suc-le-suc h)
+-- within a list the default does not count
+pub get-any : {A : Type 0} (l : List A) (k : ℕ) (d e : A) → k < length l → getD l k d ≡ getD l k e
+get-any [] k d e h = absurd (not-suc-le-zero h)
+get-any (x ∷ l) zero d e h = refl
+get-any (x ∷ l) (suc k) d e h = get-any l k d e (le-of-suc-le-suc h)
 
 pub schmidt-entry : (i : ℕ) → i < N-LEGENDRE → getD schmidtTable i nan ≡ schmidtAt i
 unfolding schmidtTable schmidtAt schmidtBits
-schmidt-entry i h = getD-map (ofBits binary32) schmidtBits 0 nan i h
+schmidt-entry i h = get-any schmidtTable i nan (ofBits binary32 0) h ∙ List·getD-map (ofBits binary32) schmidtBits i 0
