@@ -2,9 +2,8 @@
  * new library. The figures of this list are made up.
  *
  *   tools/build-library
- *   cc -Iinclude examples/listed.c target/library/$(uname -m)/libnjerumoy.a -lm -o listed && ./listed
+ *   cc -Iinclude examples/listed.c target/library/$(uname -m)/libnjerumoy.a -o listed && ./listed
  */
-#include <math.h>
 #include <stdio.h>
 
 #include "njerumoy_published.h"
@@ -17,22 +16,20 @@ static const struct njerumoy_error_record RECORDS[] = {
 };
 static const size_t COUNT = sizeof RECORDS / sizeof *RECORDS;
 
-static struct njerumoy_pair pair(float degrees) {
-    const float radians = degrees * 0.017453292519943295f;
-    const struct njerumoy_pair p = {sinf(radians), cosf(radians)};
-    return p;
-}
-
 int main(void) {
     const struct njerumoy_set *const set = &NJERUMOY_WMM2025;
-    const struct njerumoy_place place = {0.0f, pair(80.0f), pair(0.0f)}; /* height in metres */
+    struct njerumoy_place place = {.height = 0.0f}; /* in metres */
     const int32_t year = 2025, day_of_year = 1;
     float xyz[3], errors[8], uncertainty;
     size_t entry[2];
     int32_t years[2];
 
-    uint32_t refusal = njerumoy_field_listed_with(set, place, year, day_of_year, RECORDS, COUNT, xyz,
-                                                  errors, entry, years);
+    uint32_t refusal = njerumoy_sine_and_cosine_into(&place.latitude, 80.0f); /* degrees */
+    if (refusal == 0) refusal = njerumoy_sine_and_cosine_into(&place.longitude, 0.0f);
+    if (refusal == 0) {
+        refusal = njerumoy_field_listed_with(set, place, year, day_of_year, RECORDS, COUNT, xyz,
+                                             errors, entry, years);
+    }
     if (refusal == 0) {
         refusal =
             njerumoy_declination_uncertainty_listed_with(set, xyz, RECORDS, COUNT, &uncertainty);

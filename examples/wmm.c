@@ -1,16 +1,13 @@
 /* The field at a place and a day, for people. The command ./wmm builds and runs it; ./wmm --help says
- * what its words mean. Sines, cosines and the declination are the C library's; the sets are the
- * published ones, or the set of a coefficient file. */
+ * what its words mean. Every number is worked out by the proved library, and none by a C library's
+ * mathematics; the sets are the published ones, or the set of a coefficient file. */
 #include <errno.h>
-#include <math.h>
 #include <stdio.h>
 #include <stdlib.h>
 #include <string.h>
 
 #include "cof.h"
 #include "njerumoy_published.h"
-
-static const float DEGREE = 0.017453292519943295f; /* in radians */
 
 static const char USAGE[] =
     "usage: ./wmm [--cof FILE] LAT LON HEIGHT_M YEAR DAY   (./wmm --help says more)\n";
@@ -29,6 +26,10 @@ static const char *const WORDS[] = {
     "the radius ratio is not from 0.875 to 1.015625",
     "the offset is not from 0 to 5 years",
     "a number cannot be used: not finite, or out of range",
+    "a line of the coefficient file is not what the file has there",
+    "a line of the coefficient file is out of order or missing",
+    "the list of error records has none of the epoch year",
+    "the angle is not finite, or not from -180 to 180 degrees",
 };
 
 /* What is asked: degrees, metres, and a day. */
@@ -39,7 +40,7 @@ struct question {
 
 /* What is printed. */
 struct shown {
-    float xyz[3], errors[8], allowances[3], h, f, d, d_uncertainty, variation;
+    float xyz[3], errors[8], allowances[3], h, f, d, d_uncertainty, i, variation;
     uint32_t zone, given;
     int32_t years[2];
     int near_pole;
@@ -67,11 +68,6 @@ static int read_question(char **words, struct question *q) {
            read_whole(words[4], &q->day);
 }
 
-static struct njerumoy_pair pair(float degrees) {
-    const struct njerumoy_pair p = {sinf(degrees * DEGREE), cosf(degrees * DEGREE)};
-    return p;
-}
-
 /* The epoch year of the day, or 0 where it has none. */
 static int32_t epoch_of(const struct question *q) {
     int32_t epoch_year = 0;
@@ -88,8 +84,7 @@ static struct njerumoy_set published_set(const struct question *q) {
 
 /* Whether Field leaves orders 2 and above out at this place. Field itself is asked, with a set of one
  * number, g of degree 2 and order 2: the field of that is zero exactly where order 2 is left out. */
-static int near_pole(struct njerumoy_place place, const struct question *q,
-                     const struct njerumoy_set *set) {
+static int near_pole(const struct question *q, const struct njerumoy_set *set) {
     static const float none[NJERUMOY_LIST_LENGTH], one[NJERUMOY_LIST_LENGTH] = {[4] = 1.0f};
     struct njerumoy_set order_2 = *set;
     float xyz[3] = {0.0f, 0.0f, 0.0f}, errors[8];
@@ -98,24 +93,34 @@ static int near_pole(struct njerumoy_place place, const struct question *q,
 
     order_2.g = one;
     order_2.h = order_2.g_dot = order_2.h_dot = none;
-    njerumoy_field_with(&order_2, place, q->year, q->day, xyz, errors, entry, years);
+    njerumoy_field_in_degrees_with(&order_2, q->height, q->lat, q->lon, q->year, q->day, xyz, errors,
+                                   entry, years);
     return xyz[0] == 0.0f && xyz[1] == 0.0f && xyz[2] == 0.0f;
 }
 
-static uint32_t field_at(const struct question *q, const struct njerumoy_set *set, struct shown *s) {
-    const struct njerumoy_place place = {q->height, pair(q->lat), pair(q->lon)};
+/* The allowance takes the latitude and the longitude as pairs. */
+static uint32_t allowance_at(const struct question *q, const struct njerumoy_set *set,
+                             struct shown *s) {
+    struct njerumoy_place place = {.height = q->height};
     size_t entry[2];
 
-    const uint32_t refusal =
-        njerumoy_field_with(set, place, q->year, q->day, s->xyz, s->errors, entry, s->years);
-    if (refusal == NJERUMOY_HEIGHT) return refusal;
-    /* Its refusals are Field's. */
-    njerumoy_allowance_with(set, place, q->year, q->day, s->allowances, entry, s->years);
-    s->near_pole = near_pole(place, q, set);
-    /* A pair comes round again after a full turn, so the degrees are asked for too. */
-    const uint32_t of_degrees =
-        njerumoy_grid_variation(q->lat, q->lon, 0.0f, &s->given, &s->variation);
-    return of_degrees != 0 ? of_degrees : refusal;
+    uint32_t refusal = njerumoy_sine_and_cosine_into(&place.latitude, q->lat);
+    if (refusal == 0) refusal = njerumoy_sine_and_cosine_into(&place.longitude, q->lon);
+    if (refusal == 0) {
+        refusal =
+            njerumoy_allowance_with(set, place, q->year, q->day, s->allowances, entry, s->years);
+    }
+    return refusal;
+}
+
+static uint32_t field_at(const struct question *q, const struct njerumoy_set *set, struct shown *s) {
+    size_t entry[2];
+
+    uint32_t refusal = njerumoy_field_in_degrees_with(set, q->height, q->lat, q->lon, q->year, q->day,
+                                                      s->xyz, s->errors, entry, s->years);
+    if (refusal == 0) refusal = allowance_at(q, set, s);
+    if (refusal == 0) s->near_pole = near_pole(q, set);
+    return refusal;
 }
 
 static uint32_t strengths(const struct question *q, const struct njerumoy_set *set,
@@ -127,15 +132,21 @@ static uint32_t strengths(const struct question *q, const struct njerumoy_set *s
     if (refusal == 0) {
         refusal = njerumoy_declination_uncertainty_with(set, s->xyz, &s->d_uncertainty);
     }
-    s->d = atan2f(y, x) / DEGREE;
+    if (refusal == 0) refusal = njerumoy_field_declination(x, y, z, &s->d);
+    if (refusal == 0) refusal = njerumoy_inclination(x, y, z, &s->i);
     if (refusal == 0) {
         refusal = njerumoy_grid_variation(q->lat, q->lon, s->d, &s->given, &s->variation);
     }
     return refusal;
 }
 
-/* Two digits after the point, upward: what is printed is still a bound. */
-static double upward(float bound) { return ceil((double)bound * 100.0) / 100.0; }
+/* Two digits after the point, upward: what is printed is still a bound. The product is exact, and the
+ * cast cuts off what is behind its point. */
+static double upward(float bound) {
+    const double hundredths = (double)bound * 100.0;
+    const int64_t below = (int64_t)hundredths;
+    return (double)(below + ((double)below < hundredths)) / 100.0;
+}
 
 static void print(const struct njerumoy_set *set, const struct shown *s) {
     const char *const zones[] = {"none", "blackout", "caution"};
@@ -145,6 +156,7 @@ static void print(const struct njerumoy_set *set, const struct shown *s) {
     printf("H  %9.1f nT  +- %.0f\n", (double)s->h, (double)s->errors[NJERUMOY_ERROR_H]);
     printf("F  %9.1f nT  +- %.0f\n", (double)s->f, (double)s->errors[NJERUMOY_ERROR_F]);
     printf("D  %9.2f deg +- %.2f\n", (double)s->d, (double)s->d_uncertainty);
+    printf("I  %9.2f deg +- %.2f\n", (double)s->i, (double)s->errors[NJERUMOY_ERROR_INCLINATION]);
     printf("zone   %s\n", zones[s->zone]);
     if (s->given) printf("grid   %.2f deg\n", (double)s->variation);
     printf("epoch  %d\n", (int)set->epoch_year);

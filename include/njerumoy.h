@@ -41,11 +41,11 @@ enum {
     NJERUMOY_ANSWER = 0,
     /* the height is not finite, or outside -1000 to 850000 m */
     NJERUMOY_HEIGHT = 1,
-    /* the latitude is no latitude: its pair is off the circle or its cosine below -2^-20; in
-     * degrees, it is not finite or outside -90 to 90 */
+    /* the latitude is no latitude: its pair is off the circle or its cosine below -2^-20; of a grid
+     * variation, it is not finite or outside -90 to 90 degrees */
     NJERUMOY_LATITUDE = 2,
-    /* the longitude is no longitude: its pair is off the circle; in degrees, it is not finite or
-     * outside -180 to 180 */
+    /* the longitude is no longitude: its pair is off the circle; of a grid variation, it is not
+     * finite or outside -180 to 180 degrees */
     NJERUMOY_LONGITUDE = 3,
     /* that year has no such day */
     NJERUMOY_DAY_OF_YEAR = 4,
@@ -74,12 +74,26 @@ enum {
     /* a line of a coefficient file is out of order or missing. `line` is told the number. */
     NJERUMOY_OUT_OF_ORDER = 14,
     /* a lent list has no error record of the epoch year */
-    NJERUMOY_NO_ERROR_RECORD = 15
+    NJERUMOY_NO_ERROR_RECORD = 15,
+    /* an angle is not finite, or outside -180 to 180 degrees */
+    NJERUMOY_ANGLE = 16
 };
 
 /* A pair (sine, cosine) is off the circle where one of them is not finite, or the sum of their
- * squares, each step rounded to float, lies outside 1 - 2^-20 to 1 + 2^-20. sinf and cosf of one
- * angle are on it. */
+ * squares, each step rounded to float, lies outside 1 - 2^-20 to 1 + 2^-20. */
+
+/* The sine and the cosine of an angle from -180 to 180 degrees: a pair, as the calls below take it.
+ * Both are worked out in whole numbers, so that their bits are the same on every machine. Pairs from
+ * elsewhere, such as sinf and cosf of one angle, are taken as well.
+ *
+ * Each is within 2^-22 of the exact value. They are exact at 0, 90 and 180 degrees of either sign:
+ * the sine of -0 is -0, of 180 it is 0 and of -180 it is -0; the cosine of 90 and of -90 is 0.
+ *
+ * A pair that is made here is on the circle. So njerumoy_field never refuses it by 3, and as a
+ * latitude by 2 only where the angle is beyond 90 degrees, of either sign.
+ *
+ * Refusal 16. */
+uint32_t njerumoy_sine_and_cosine(float degrees, float *sine, float *cosine);
 
 /* Field: the geomagnetic field at a place and a day.
  *
@@ -104,6 +118,22 @@ uint32_t njerumoy_field(float height, float sin_phi, float cos_phi, float sin_la
                         const float *g_dot, size_t g_dot_length, const float *h_dot,
                         size_t h_dot_length, float xyz[3], float errors[8], size_t entry[2],
                         int32_t years[2]);
+
+/* Field, with the latitude and the longitude in degrees: all is told as njerumoy_field tells it of the
+ * pairs that njerumoy_sine_and_cosine makes of the two, to the bit.
+ *
+ * latitude_deg, longitude_deg    north and east positive
+ * the others    as in njerumoy_field
+ *
+ * Refusals, in this order: 16, by the latitude; 16, by the longitude; 1, 2, 4, 5, 6, 7, 8 as in
+ * njerumoy_field. 2 is only of a latitude beyond 90 degrees, of either sign; a latitude that is beyond
+ * by less than 2^-20 radians can be answered. */
+uint32_t njerumoy_field_in_degrees(float height, float latitude_deg, float longitude_deg,
+                                   int32_t year, int32_t day_of_year, int32_t epoch_year,
+                                   const float *g, size_t g_length, const float *h, size_t h_length,
+                                   const float *g_dot, size_t g_dot_length, const float *h_dot,
+                                   size_t h_dot_length, float xyz[3], float errors[8],
+                                   size_t entry[2], int32_t years[2]);
 
 /* Where each figure stands in `errors`. The declination's uncertainty is the root of
  * SIGMA_C squared + (SIGMA_V / H) squared, and at most 180: njerumoy_declination_uncertainty. */
@@ -237,6 +267,25 @@ enum {
     /* H from 2000 nT on and below 6000 nT */
     NJERUMOY_CAUTION_ZONE = 2
 };
+
+/* The declination of a field of x to the north and y to the east: the angle from north to the field,
+ * east positive, -180 to 180 degrees.
+ *
+ * It is within 2^-15 degree of the exact angle, and its bits are the same on every machine. Where y is
+ * zero, of either sign, it is 180 for an x below zero and else 0; where x alone is zero, it is exactly
+ * 90 or -90.
+ *
+ * Refusal 12: njerumoy_declination by x or y, njerumoy_field_declination by any of the three. */
+uint32_t njerumoy_declination(float x, float y, float *declination);
+uint32_t njerumoy_field_declination(float x, float y, float z, float *declination);
+
+/* The inclination: the angle from the horizontal plane to the field, down positive, -90 to 90 degrees.
+ * It is the angle of (H, Z), found as the declination is found of (X, Y), with H as
+ * njerumoy_horizontal gives it. So it is within 2^-15 degree of the exact angle of these two; where z
+ * is zero, of either sign, it is 0, and where H alone is zero, it is exactly 90 or -90.
+ *
+ * Refusal 12, by any of the three. */
+uint32_t njerumoy_inclination(float x, float y, float z, float *inclination);
 
 /* The uncertainty of the declination, by the error figures of an epoch year. Refusals, in this
  * order: 5, 12. */

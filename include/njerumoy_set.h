@@ -48,6 +48,10 @@ struct njerumoy_pair {
     float sine, cosine;
 };
 
+static inline uint32_t njerumoy_sine_and_cosine_into(struct njerumoy_pair *pair, float degrees) {
+    return njerumoy_sine_and_cosine(degrees, &pair->sine, &pair->cosine);
+}
+
 /* A place: its height in metres, its geodetic latitude and its longitude. */
 struct njerumoy_place {
     float height;
@@ -63,6 +67,17 @@ static inline uint32_t njerumoy_field_with(const struct njerumoy_set *set,
                           set->epoch_year, set->g, set->g_length, set->h, set->h_length, set->g_dot,
                           set->g_dot_length, set->h_dot, set->h_dot_length, xyz, errors, entry,
                           years);
+}
+
+static inline uint32_t njerumoy_field_in_degrees_with(const struct njerumoy_set *set, float height,
+                                                      float latitude_deg, float longitude_deg,
+                                                      int32_t year, int32_t day_of_year,
+                                                      float xyz[3], float errors[8],
+                                                      size_t entry[2], int32_t years[2]) {
+    return njerumoy_field_in_degrees(height, latitude_deg, longitude_deg, year, day_of_year,
+                                     set->epoch_year, set->g, set->g_length, set->h, set->h_length,
+                                     set->g_dot, set->g_dot_length, set->h_dot, set->h_dot_length,
+                                     xyz, errors, entry, years);
 }
 
 static inline uint32_t njerumoy_field_listed_with(const struct njerumoy_set *set,

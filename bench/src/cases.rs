@@ -1,5 +1,6 @@
 //! What is timed: places and days from a seed, all of them accepted.
 use njerumoy::{published, Day, Pair, Set};
+use oracle::angles::DegreePlace;
 use oracle::entries;
 use oracle::models::model_by_epoch_year;
 
@@ -22,6 +23,12 @@ pub struct FieldCase {
     pub phi: Pair,
     pub lambda: Pair,
     pub day: Day,
+    pub set: usize,
+}
+
+/// A place in degrees.
+pub struct DegreeCase {
+    pub place: DegreePlace,
     pub set: usize,
 }
 
@@ -100,6 +107,29 @@ impl Random {
     pub fn components(&mut self, count: usize) -> Vec<Components> {
         (0..count)
             .map(|_| [0; 3].map(|_| self.between(-60000.0, 60000.0) as f32))
+            .collect()
+    }
+
+    pub fn angles(&mut self, count: usize) -> Vec<f32> {
+        (0..count)
+            .map(|_| self.between(-180.0, 180.0) as f32)
+            .collect()
+    }
+
+    pub fn degree_fields(&mut self, count: usize) -> Vec<DegreeCase> {
+        (0..count)
+            .map(|_| {
+                let set = self.whole(0, 1);
+                let place = DegreePlace {
+                    height: self.between(-1000.0, 850000.0) as f32,
+                    latitude_deg: self.between(-89.9, 89.9) as f32,
+                    longitude_deg: self.between(-180.0, 180.0) as f32,
+                    year: 2020 + 5 * set + self.whole(0, 4),
+                    day: self.whole(1, 365),
+                };
+                let set = set as usize;
+                DegreeCase { place, set }
+            })
             .collect()
     }
 

@@ -1,11 +1,13 @@
 //! The proved library beside the oracle's Rust, which makes the same checks: each row's answers are
-//! compared bit for bit, then timed in turn.
+//! compared bit for bit, then timed in turn. The rows in degrees are timed beside the machine's C library.
 //!
 //!   bench [ROUNDS]
+mod angles;
 mod cases;
 
 use bench::listed::{self, List};
 use bench::reading::{self, LENGTH};
+use bench::timing::{print_head, row};
 use cases::{sets, Both, Components, FieldCase, Random, SumCase};
 use njerumoy::Field;
 use oracle::entries::{self, Place};
@@ -13,26 +15,22 @@ use oracle::field::WarningZone;
 use oracle::layout::published_file;
 use oracle::models::{WmmErrorModel, WMM_ERROR_MODELS};
 use std::env;
-use std::hint::black_box;
 use std::process::ExitCode;
-use std::time::Instant;
 
-const CASES: usize = 1000;
+pub const CASES: usize = 1000;
 /// A file takes longer than any other case.
 const FILES: usize = 100;
 const ROUNDS: usize = 301;
-/// A line of the cache has 64 bytes, and a stack frame begins at a multiple of 16.
-const POSITIONS: usize = 4;
 
 /// An answer as bits. No case is refused; a refusal would be its number, and no bits.
-type Bits = Result<[u32; 3], u32>;
+pub type Bits = Result<[u32; 3], u32>;
 
-fn bits(x: f32, y: f32, z: f32) -> Bits {
+pub fn bits(x: f32, y: f32, z: f32) -> Bits {
     Ok([x.to_bits(), y.to_bits(), z.to_bits()])
 }
 
 /// The number of a refusal of the oracle.
-fn refused(refusal: entries::Refusal) -> u32 {
+pub fn refused(refusal: entries::Refusal) -> u32 {
     refusal.number()
 }
 
@@ -164,77 +162,6 @@ fn answered<P>((number, places): (u32, P)) -> Result<P, u32> {
     }
 }
 
-/// Nanoseconds a call, over all cases once.
-fn time<T, A>(cases: &[T], call: impl Fn(&T) -> Result<A, u32>) -> f64 {
-    let began = Instant::now();
-    for case in cases {
-        let _ = black_box(call(black_box(case)));
-    }
-    began.elapsed().as_nanos() as f64 / cases.len() as f64
-}
-
-/// The time of a call with N bytes more of the stack in use.
-#[inline(never)]
-fn with_room<const N: usize>(call: &dyn Fn() -> f64) -> f64 {
-    let room = black_box([0u8; N]);
-    let time = call();
-    black_box(&room);
-    time
-}
-
-/// The same, at one of the positions that a frame can have in a line of the cache. Which it is moves a call
-/// by some percent, and a program's own luck decides it: so all are timed.
-fn at(position: usize, call: &dyn Fn() -> f64) -> f64 {
-    match position {
-        0 => with_room::<16>(call),
-        1 => with_room::<32>(call),
-        2 => with_room::<48>(call),
-        _ => with_room::<64>(call),
-    }
-}
-
-fn median(times: &mut [f64]) -> f64 {
-    times.sort_by(f64::total_cmp);
-    times[times.len() / 2]
-}
-
-/// The mean of the medians at each position.
-fn overall(mut times: [Vec<f64>; POSITIONS]) -> f64 {
-    let medians = times.iter_mut().filter(|t| !t.is_empty());
-    let medians: Vec<f64> = medians.map(|t| median(t)).collect();
-    medians.iter().sum::<f64>() / medians.len() as f64
-}
-
-/// Compares the bits, then times both sides in turn, the first of the two changing from round to
-/// round, and the position of the stack every second round. Gives whether the bits agree.
-fn row<T, A: PartialEq>(
-    name: &str,
-    rounds: usize,
-    cases: &[T],
-    ours: impl Fn(&T) -> Result<A, u32>,
-    rust: impl Fn(&T) -> Result<A, u32>,
-) -> bool {
-    let differing = cases
-        .iter()
-        .filter(|case| ours(case).is_err() || ours(case) != rust(case))
-        .count();
-    let sides: [&dyn Fn() -> f64; 2] = [&|| time(cases, &ours), &|| time(cases, &rust)];
-    let mut times = [(); 2].map(|()| [(); POSITIONS].map(|()| Vec::new()));
-    for round in 0..rounds {
-        let position = round / 2 % POSITIONS;
-        for side in [round % 2, 1 - round % 2] {
-            times[side][position].push(at(position, sides[side]));
-        }
-    }
-    let [ours, rust] = times.map(overall);
-    let ratio = ours / rust;
-    println!(
-        "{name:<20} {ours:>9.1} {rust:>9.1} {ratio:>7.3}   {differing} of {} differ",
-        cases.len()
-    );
-    differing == 0
-}
-
 /// The row of Field with lists of `count` error records.
 fn field_listed(
     name: &str,
@@ -271,10 +198,7 @@ fn main() -> ExitCode {
     let components = random.components(CASES);
     let numbers = random.numbers(CASES);
     let files = vec![published_file(2025).expect("a published epoch"); FILES];
-    println!(
-        "{:<20} {:>9} {:>9} {:>7}   bits",
-        "", "ours ns", "Rust ns", "ratio"
-    );
+    print_head();
     let same = [
         row(
             "Sum, general",
@@ -314,6 +238,7 @@ fn main() -> ExitCode {
             |text| answered(reading::ours(text, [LENGTH; 4])),
             |text| answered(reading::rust(text, [LENGTH; 4])),
         ),
+        angles::rows(&mut random, rounds, &sets),
     ];
     if same.iter().all(|same| *same) {
         ExitCode::SUCCESS

@@ -1,8 +1,8 @@
 /* Tests of the library through its C headers: answers, refusals in their order, what they carry, and
  * that a place keeps what it held where the call has no result for it. Each question that takes a set
  * is asked in both forms, with loose lists and with the set in one piece, and all that is told must
- * be the same, bit for bit. tools/test-library runs it. test_cof.c has the coefficient files, and
- * test_records.c the lent error records. */
+ * be the same, bit for bit. tools/test-library runs it. test_angles.c has angles in degrees,
+ * test_cof.c the coefficient files, and test_records.c the lent error records. */
 #include "question.h"
 
 static uint32_t ask(struct field *q) {

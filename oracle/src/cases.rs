@@ -5,6 +5,7 @@
 //! special part.
 mod damage;
 pub mod decimals;
+mod degrees;
 mod files;
 mod listed;
 mod lists;
@@ -15,12 +16,13 @@ mod rng;
 mod strengths;
 mod values;
 
-use crate::format::Case;
+use crate::format::{put_case, Case};
 use crate::replay::Replay;
 pub use decimals::planned_words;
 pub use listed::TURNS;
 use places::DAYS;
-use rng::{plans, singles, Rng, Walk};
+pub use rng::Rng;
+use rng::{plans, singles, Walk};
 use std::io::{self, Write};
 use strengths::{STRENGTHS, WRAPS};
 use values::Pools;
@@ -40,6 +42,10 @@ pub enum Kind {
     Cof,
     Flist,
     Ulist,
+    Trig,
+    Decl,
+    Dir,
+    Fdeg,
 }
 
 /// Every kind of a list of all kinds, its name on the command line, and its share of a mixed list. A
@@ -57,10 +63,16 @@ pub const KINDS: [(Kind, &str, usize); 10] = [
     (Kind::Cof, "COF", 1),
 ];
 
-/// The kinds that come only where they are named: those with lists of error records. So a list of all
-/// kinds from a seed is what it was before there were such lines.
-pub const NAMED_KINDS: [(Kind, &str, usize); 2] =
-    [(Kind::Flist, "FLIST", 60), (Kind::Ulist, "ULIST", 60)];
+/// The kinds that come only where they are named: those with lists of error records, and those with
+/// angles in degrees. So a list of all kinds from a seed is what it was before there were such lines.
+pub const NAMED_KINDS: [(Kind, &str, usize); 6] = [
+    (Kind::Flist, "FLIST", 60),
+    (Kind::Ulist, "ULIST", 60),
+    (Kind::Trig, "TRIG", 60),
+    (Kind::Decl, "DECL", 60),
+    (Kind::Dir, "DIR", 60),
+    (Kind::Fdeg, "FDEG", 60),
+];
 
 pub struct Generator {
     rng: Rng,
@@ -92,6 +104,7 @@ pub struct Generator {
     /// Latitude, longitude, declination.
     gv_ways: [usize; 3],
     listed_walks: listed::Walks,
+    degree_walks: degrees::Walks,
 }
 
 impl Generator {
@@ -131,6 +144,8 @@ impl Generator {
             words.len(),
             files::FILES,
         ];
+        let [height, _, _, year, day] = field_ways;
+        let degree_walks = degrees::Walks::new(seed, height, year, day);
         Generator {
             walks: totals.map(|total| Walk::new(total, &mut rng)),
             set_walk: Walk::new(lists::SETS + pools.epoch_year.len(), &mut rng),
@@ -150,13 +165,14 @@ impl Generator {
             str_ways,
             gv_ways,
             listed_walks: listed::Walks::new(seed),
+            degree_walks,
         }
     }
 
     /// Writes one case line of a kind, and before it a SET line where another set's turn has come.
     pub fn line(&mut self, kind: Kind, out: &mut Vec<u8>) {
-        if let Kind::Flist | Kind::Ulist = kind {
-            return self.listed_line(kind, out);
+        if NAMED_KINDS.iter().any(|named| named.0 == kind) {
+            return self.named_line(kind, out);
         }
         let walk = &mut self.walks[kind as usize];
         let planned = self.rng.once_in(if walk.is_through() { 8 } else { 2 });
@@ -172,6 +188,26 @@ impl Generator {
             _ => return self.text_line(kind, place, out),
         };
         self.replay.case(&case, out);
+    }
+
+    /// Writes a line of a kind that comes only where it is named, once in 32 times a damaged one.
+    fn named_line(&mut self, kind: Kind, out: &mut Vec<u8>) {
+        if self.rng.once_in(32) {
+            return damage::damaged_line(self, out, |generator, out| {
+                let mut line = Vec::new();
+                put_case(&mut line, &generator.named_case(kind, out));
+                line
+            });
+        }
+        let case = self.named_case(kind, out);
+        self.replay.case(&case, out);
+    }
+
+    fn named_case(&mut self, kind: Kind, out: &mut Vec<u8>) -> Case<'static> {
+        match kind {
+            Kind::Flist | Kind::Ulist => Case::Listed(self.listed(kind, out)),
+            _ => Case::InDegrees(self.in_degrees(kind, out)),
+        }
     }
 
     /// The text of a question of DEC, WHOLE or COF.

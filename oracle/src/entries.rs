@@ -43,6 +43,8 @@ pub enum Refusal {
     OutOfOrder { line: usize },
     /// 15
     NoErrorRecord,
+    /// 16
+    Angle,
 }
 
 impl Refusal {
@@ -64,6 +66,7 @@ impl Refusal {
             Refusal::Malformed { .. } => 13,
             Refusal::OutOfOrder { .. } => 14,
             Refusal::NoErrorRecord => 15,
+            Refusal::Angle => 16,
         }
     }
 }
@@ -267,10 +270,14 @@ pub fn components([x, y, z]: [f32; 3]) -> GeomagneticField {
     }
 }
 
+/// Finite and at most 2^60 in size, as a component is.
+pub fn is_usable(x: f32) -> bool {
+    within(x, -MAX_COMPONENT, MAX_COMPONENT)
+}
+
 /// Refusal 12, by any of X, Y and Z.
-fn check_components(field: &GeomagneticField) -> Result<(), Refusal> {
-    let usable = |x: f32| within(x, -MAX_COMPONENT, MAX_COMPONENT);
-    if usable(field.x) && usable(field.y) && usable(field.z) {
+pub fn check_components(field: &GeomagneticField) -> Result<(), Refusal> {
+    if is_usable(field.x) && is_usable(field.y) && is_usable(field.z) {
         Ok(())
     } else {
         Err(Refusal::Unusable)

@@ -1,5 +1,6 @@
 //! The case lines: reading and writing. README.md has the whole rule.
 //! A float is the 8 hex digits of its bits. Years, days, epochs and counts are decimal.
+use crate::degrees::InDegrees;
 use crate::entries::{Place, Refusal, Set};
 use crate::listed::Listed;
 
@@ -54,6 +55,8 @@ pub enum Case<'a> {
     },
     /// FLIST or ULIST.
     Listed(Listed),
+    /// TRIG, DECL, DIR or FDEG.
+    InDegrees(InDegrees),
 }
 
 /// The words of a line. Exactly one space stands between two words.
@@ -199,7 +202,7 @@ pub fn parse_case(question: &[u8]) -> Option<Case<'_>> {
         },
         b"FLIST" => Case::Listed(Listed::field(&mut words)?),
         b"ULIST" => Case::Listed(Listed::uncertainty(&mut words)?),
-        _ => return None,
+        name => Case::InDegrees(InDegrees::read(name, &mut words)?),
     };
     words.end(case)
 }
@@ -288,6 +291,7 @@ pub fn put_case(out: &mut Vec<u8>, case: &Case) {
         Case::Whole { word } => put_text(out, b"WHOLE ", word),
         Case::Cof { text } => put_text(out, b"COF ", text),
         Case::Listed(ref listed) => listed.put(out),
+        Case::InDegrees(asked) => asked.put(out),
     }
 }
 

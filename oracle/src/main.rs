@@ -10,7 +10,8 @@ const USAGE: &str = "\
 oracle answer                        answers the case lines of standard input
 oracle cases SEED COUNT [KIND ...]   writes COUNT case lines with their answers
                                      (SUM FIELD EPOCH STR GV SQRT BAD DEC WHOLE COF; none named: all
-                                     of these; and FLIST ULIST, where they are named)
+                                     of these; and FLIST ULIST TRIG DECL DIR FDEG, where they are
+                                     named)
 oracle roots                         compares the root on all 2^31 patterns, two threads
 oracle published FILE                compares the published test values
 oracle rows FILE                     writes them as lines for the program replay";

@@ -188,6 +188,7 @@ fn put_result(out: &mut Vec<u8>, case: &Case, set: &Set) -> Result<(), Refusal> 
         },
         Case::Sqrt { x } => put_float(out, square_root(x)?),
         Case::Listed(ref listed) => listed.put_result(out, set)?,
+        Case::InDegrees(asked) => asked.put_result(out, set)?,
         Case::Dec { .. } | Case::Whole { .. } | Case::Cof { .. } => {
             unreachable!("put_answer answers these by itself")
         }

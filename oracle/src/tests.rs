@@ -1,6 +1,8 @@
 //! Tests: the worked examples of document 01, the refusals and their order, the agency's file, lists
-//! of error records, the line format, and the generated cases.
+//! of error records, angles in degrees, the line format, and the generated cases.
 mod agency;
+mod angles;
+mod degrees;
 mod format;
 mod generated;
 mod listed;

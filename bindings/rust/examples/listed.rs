@@ -3,7 +3,7 @@
 //!
 //!   tools/build-library
 //!   cargo run --manifest-path bindings/rust/Cargo.toml --example listed
-use njerumoy::{published, Day, ErrorRecord, Errors, Pair, Refusal};
+use njerumoy::{published, sine_and_cosine, Day, ErrorRecord, Errors, Refusal};
 
 /// The first record of the day's epoch year is used.
 const RECORDS: [ErrorRecord; 1] = [ErrorRecord {
@@ -20,18 +20,14 @@ const RECORDS: [ErrorRecord; 1] = [ErrorRecord {
     },
 }];
 
-fn pair(degrees: f32) -> Pair {
-    let (sin, cos) = degrees.to_radians().sin_cos();
-    Pair { sin, cos }
-}
-
 fn main() -> Result<(), Refusal> {
     let day = Day {
         year: 2025,
         day_of_year: 1,
     };
     let set = published::WMM2025;
-    let field = njerumoy::field_listed(0.0, pair(80.0), pair(0.0), day, &set, &RECORDS)?;
+    let (latitude, longitude) = (sine_and_cosine(80.0)?, sine_and_cosine(0.0)?);
+    let field = njerumoy::field_listed(0.0, latitude, longitude, day, &set, &RECORDS)?;
     println!(
         "X {:.1} +- {:.0}  Y {:.1} +- {:.0}  Z {:.1} +- {:.0} nT  D +- {:.2} deg",
         field.x,

@@ -2,9 +2,11 @@
 //! the library that tools/build-library builds; include/njerumoy.h says what each call asks and
 //! answers. It needs no standard library and no other crate.
 //!
-//! Sines and cosines are the caller's: lend those of one angle, as `Pair { sin, cos }`.
+//! `field_in_degrees` takes a place in degrees. The other calls take an angle by its sine and cosine:
+//! `sine_and_cosine` makes this `Pair` from degrees, or lend your own.
 #![no_std]
 
+mod angles;
 mod owned;
 pub mod published;
 mod records;
@@ -12,6 +14,7 @@ mod refusal;
 #[doc(hidden)] // for the comparison in bench/, which lends lists of every length
 pub mod sys;
 
+pub use angles::{declination, field_in_degrees, sine_and_cosine};
 pub use owned::{OwnedSet, LIST_LENGTH};
 pub use records::{field_listed, ErrorRecord, Errors};
 use refusal::Carried;

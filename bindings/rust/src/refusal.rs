@@ -55,6 +55,8 @@ pub enum Refusal {
     OutOfOrder { line: usize },
     /// 15
     NoErrorRecord,
+    /// 16
+    Angle,
 }
 
 /// The places that a call lends for what a refusal carries. One that it does not lend stays 0.
@@ -108,11 +110,12 @@ impl Refusal {
             12 => Refusal::Unusable,
             13 => Refusal::Malformed { line },
             14 => Refusal::OutOfOrder { line },
-            _ => Refusal::NoErrorRecord,
+            15 => Refusal::NoErrorRecord,
+            _ => Refusal::Angle,
         }
     }
 
-    /// The number, 1 to 15.
+    /// The number, 1 to 16.
     pub fn number(&self) -> u32 {
         match self {
             Refusal::Height { .. } => 1,
@@ -130,6 +133,7 @@ impl Refusal {
             Refusal::Malformed { .. } => 13,
             Refusal::OutOfOrder { .. } => 14,
             Refusal::NoErrorRecord => 15,
+            Refusal::Angle => 16,
         }
     }
 }
@@ -169,6 +173,9 @@ impl fmt::Display for Refusal {
             }
             Refusal::NoErrorRecord => {
                 f.write_str("the lent list has no error record of that epoch year")
+            }
+            Refusal::Angle => {
+                f.write_str("the angle is not finite, or not from -180 to 180 degrees")
             }
         }
     }

@@ -3,12 +3,35 @@
 use crate::ErrorRecord;
 
 extern "C" {
+    pub fn njerumoy_sine_and_cosine(degrees: f32, sine: &mut f32, cosine: &mut f32) -> u32;
+
     pub fn njerumoy_field(
         height: f32,
         sin_phi: f32,
         cos_phi: f32,
         sin_lambda: f32,
         cos_lambda: f32,
+        year: i32,
+        day_of_year: i32,
+        epoch_year: i32,
+        g: *const f32,
+        g_length: usize,
+        h: *const f32,
+        h_length: usize,
+        g_dot: *const f32,
+        g_dot_length: usize,
+        h_dot: *const f32,
+        h_dot_length: usize,
+        xyz: &mut [f32; 3],
+        errors: &mut [f32; 8],
+        entry: &mut [usize; 2],
+        years: &mut [i32; 2],
+    ) -> u32;
+
+    pub fn njerumoy_field_in_degrees(
+        height: f32,
+        latitude_deg: f32,
+        longitude_deg: f32,
         year: i32,
         day_of_year: i32,
         epoch_year: i32,
@@ -120,6 +143,12 @@ extern "C" {
     pub fn njerumoy_total(x: f32, y: f32, z: f32, f: &mut f32) -> u32;
 
     pub fn njerumoy_zone(x: f32, y: f32, z: f32, zone: &mut u32) -> u32;
+
+    pub fn njerumoy_declination(x: f32, y: f32, declination: &mut f32) -> u32;
+
+    pub fn njerumoy_field_declination(x: f32, y: f32, z: f32, declination: &mut f32) -> u32;
+
+    pub fn njerumoy_inclination(x: f32, y: f32, z: f32, inclination: &mut f32) -> u32;
 
     pub fn njerumoy_declination_uncertainty(
         x: f32,

@@ -10,3 +10,4 @@ pub mod Sizes
 pub mod Circle
 pub mod Range
 pub mod Wholes
+pub mod Once

@@ -1,4 +1,4 @@
--- What a returned 0 means: there is an answer. So Field's promised distance holds of what `njerumoy_field` and `njerumoy_field_listed` have written. Assumes nothing.
+-- What a returned 0 means: there is an answer. So Field's promised distance holds of what `njerumoy_field`, `njerumoy_field_in_degrees` and `njerumoy_field_listed` have written. Assumes nothing.
 use mathlib.Core.Path.{_≡_, refl, sym, ap, _∙_}
 use mathlib.Core.Bool.{Bool, true, false, cond}
 use mathlib.Core.List.{List, [], _∷_}
@@ -19,7 +19,7 @@ use denote.Triple.Entry.{Args}
 use denote.Triple.Clauses.{atExit}
 use borrow.Fn.Kinds.{Dens, endedOf}
 use Rattle.refusals.specs.declared.Refusal.{Refusal}
-use Rattle.refusals.specs.declared.Refusal.the-variants.{DayOfYear, OtherEpoch, Unusable, NoErrorRecord}
+use Rattle.refusals.specs.declared.Refusal.the-variants.{DayOfYear, OtherEpoch, Unusable, NoErrorRecord, Angle}
 use Rattle.refusals.specs.Paper.{Paper, answered, refused, paper, unless, after, told}
 use Rattle.refusals.specs.declared.Verdict.{Verdict}
 use Rattle.refusals.specs.declared.Verdict.the-variants as Verdict
@@ -31,13 +31,18 @@ use Rattle.models.specs.Epochs.{unknownEpoch, dayExists, epochYear, sameYear, k
 use Rattle.models.specs.Records.{figuresOk, figuresSays, listedErrors}
 use Rattle.models.specs.Errors.{builtIn, errorSays}
 use Rattle.lists.specs.Lists.{listsVerdict}
+use Rattle.trig.specs.declared.Pair.{Pair}
+use Rattle.trig.specs.Fixed.{accepted, sineSays}
 use Rattle.field.specs.declared.FieldAnswer.the-variants as Answer
 use Rattle.strengths.specs.declared.GeomagneticField.{GeomagneticField}
 use Rattle.field.specs.Field.{Asked, asked, shownSays, datedSays, componentsSays, fieldWith, fieldSays, listedField, FieldClose}
 use Rattle.field.proofs.Answers.{field-close, answer-close, of-place}
+use Rattle.degrees.specs.Degrees.{Place, place, paired, degreesSays}
 use Rattle.ffi.specs.Told.{numberOf, result, fieldFloats, errorFloats}
 use Rattle.ffi.proofs.fields.njerumoy_field.Kinds as kinds
 use Rattle.ffi.proofs.fields.njerumoy_field.Reads as reads
+use Rattle.ffi.proofs.fields.njerumoy_field_in_degrees.Kinds as degrees-kinds
+use Rattle.ffi.proofs.fields.njerumoy_field_in_degrees.Reads as degrees-reads
 use Rattle.ffi.proofs.listed.njerumoy_field_listed as listed
 
 -- ---- no refusal has the number 0
@@ -57,9 +62,19 @@ module _ {A : Type 0} where
   behind-verdict Verdict.Accepted p h = h
   behind-verdict (Verdict.Refused k) p h = λ e. absurd (not-zero k (sym e))
 
+not-refused : {A : Type 0} (n : ℕ) (x : List Float) (z : List ℤ) → Answers {A = A} (refused n x z) → 0 ≡ n → ⊥
+not-refused n x z h e = let q = h e in let o : _≡_ {A = ℕ} 0 1 = cc in omega arith
+
 behind-answer : {A B : Type 0} (p : Paper A) (f : A → Paper B) → Answers p → ((a : A) → Answers (f a)) → Answers (after p f)
 behind-answer (answered a) f h t = t a
-behind-answer (refused n x z) f h t = λ e. absurd (let q = h e in let o : _≡_ {A = ℕ} 0 1 = cc in omega arith)
+behind-answer (refused n x z) f h t = λ e. absurd (not-refused n x z h e)
+
+-- what is said behind two answers, and the two
+behind-two : {A B C : Type 0} (p : Paper A) (q : Paper B) (f : A → B → Paper C) → Answers p → Answers q → ((a : A) (b : B) → Answers (f a b)) → 0 ≡ numberOf (after p (λ a. after q (f a)))
+    → (a : A) × (b : B) × (c : C) × (p ≡ answered a) × (q ≡ answered b) × (after p (λ a. after q (f a)) ≡ answered c) × (f a b ≡ answered c)
+behind-two (answered a) (answered b) f h k t e = let r = t a b e in (a, b, r .0, refl, refl, r .1, r .1)
+behind-two (answered a) (refused n x z) f h k t e = absurd (not-refused n x z k e)
+behind-two (refused n x z) q f h k t e = absurd (not-refused n x z h e)
 
 behind-choice : {A : Type 0} (b : Bool) (p q : Paper A) → Answers p → Answers q → Answers (cond b p q)
 behind-choice true p q h k = h
@@ -97,6 +112,16 @@ listed-field-answers : (rs : List ErrorRecord) (a : Asked) (year day : ℤ) → 
 unfolding listedField
 listed-field-answers rs a year day = field-with-answers (listedErrors rs (epochYear year)) (listed-answers rs (epochYear year)) a year day
 
+pair-answers : (x : Float) → Answers (sineSays x)
+unfolding sineSays
+pair-answers x = behind-test (accepted x) Angle _ (answers _)
+
+-- Field in degrees: where its number is 0, there are the two pairs and what Field says of them
+degrees-answers : (a : Place) (year day : ℤ) → 0 ≡ numberOf (degreesSays a year day)
+    → (p : Pair) × (q : Pair) × (v : GeomagneticField) × (sineSays (a .latitude) ≡ answered p) × (sineSays (a .longitude) ≡ answered q) × (degreesSays a year day ≡ answered v) × (fieldSays (paired a p q) year day ≡ answered v)
+unfolding degreesSays
+degrees-answers a year day = behind-two (sineSays (a .latitude)) (sineSays (a .longitude)) (λ p q. fieldSays (paired a p q) year day) (pair-answers (a .latitude)) (pair-answers (a .longitude)) (λ p q. field-answers (paired a p q) year day)
+
 -- ---- the entries
 -- whatever is passed: if it returns 0, what it has written are the floats of one record, whose X, Y and Z lie within the promised distance
 pub njerumoy-field-distance : (κs : Lfts 8) (height sin-phi cos-phi sin-lambda cos-lambda : Float) (year day epoch-year : ℤ) (g h g-dot h-dot xyz errors : RefT (List Float)) (entry : RefT (List ℕ)) (years : RefT (List ℤ))
@@ -109,6 +134,19 @@ njerumoy-field-distance κs height sin-phi cos-phi sin-lambda cos-lambda year da
     let q = field-answers a year day (c .0 .0) in
     let v = q .0 in
     (v, c .0 .1 ∙ ap (result fieldFloats _) (q .1), c .0 .2 ∙ ap (result errorFloats _) (q .1), field-close a year day (Answer.Field v) (sym (q .1)) v refl)
+
+-- the same of the entry in degrees, of the exact field of the pairs that are made of the two angles
+pub njerumoy-field-in-degrees-distance : (κs : Lfts 8) (height latitude longitude : Float) (year day epoch-year : ℤ) (g h g-dot h-dot xyz errors : RefT (List Float)) (entry : RefT (List ℕ)) (years : RefT (List ℤ))
+    (xyz′ errors′ : List Float) (entry′ : List ℕ) (years′ : List ℤ)
+    → (let a : Dens κs degrees-kinds.ps = (height, (latitude, (longitude, (year, (day, (epoch-year, (g, (h, (g-dot, (h-dot, (xyz, (errors, (entry, (years, tt)))))))))))))) in
+    degrees-reads.Post κs a 0 (atExit (endedOf 8 degrees-kinds.ps degrees-kinds.r) κs a (tt, (tt, (tt, (tt, (tt, (tt, (tt, (tt, (tt, (tt, (xyz′, (errors′, (entry′, (years′, tt))))))))))))))))
+    → (p : Pair) × (q : Pair) × (v : GeomagneticField) × (sineSays latitude ≡ answered p) × (sineSays longitude ≡ answered q) × (xyz′ ≡ fieldFloats v) × (errors′ ≡ errorFloats v)
+    × FieldClose (paired (place height latitude longitude epoch-year (now g) (now h) (now g-dot) (now h-dot)) p q) (epochOffset year day) v
+njerumoy-field-in-degrees-distance κs height latitude longitude year day epoch-year g h g-dot h-dot xyz errors entry years xyz′ errors′ entry′ years′ c =
+    let a : Place = place height latitude longitude epoch-year (now g) (now h) (now g-dot) (now h-dot) in
+    let r = degrees-answers a year day (c .0 .0) in
+    let v = r .2 in
+    (r .0, r .1, v, r .3, r .4, c .0 .1 ∙ ap (result fieldFloats _) (r .5), c .0 .2 ∙ ap (result errorFloats _) (r .5), field-close (paired a (r .0) (r .1)) year day (Answer.Field v) (sym (r .6)) v refl)
 
 -- the same of the entry with a lent list, over its clauses, since its proof is by hand
 pub njerumoy-field-listed-distance : {M : Type 1} (𝓤 : URA M) (H : Heap 𝓤) (A : Atoms 𝓤) (mem : Memory → SProp 𝓤) (run : Routine → Fun 𝓤) (κs : Lfts 9) (height sin-phi cos-phi sin-lambda cos-lambda : Float) (year day epoch-year : ℤ)

@@ -3,7 +3,10 @@
 use mathlib.Core.Path.{_≡_, sym, _∙_}
 use Rattle.refusals.specs.OneResult.{OneResult, OneAnswer}
 use Rattle.refusals.proofs.Clauses.{both-say-first}
+use Rattle.ffi.proofs.angles.njerumoy_sine_and_cosine as sine-and-cosine-fn
+use Rattle.ffi.proofs.angles.njerumoy_declination as declination-fn
 use Rattle.ffi.proofs.fields.njerumoy_field as field-fn
+use Rattle.ffi.proofs.fields.njerumoy_field_in_degrees as field-in-degrees-fn
 use Rattle.ffi.proofs.fields.njerumoy_allowance as allowance-fn
 use Rattle.ffi.proofs.files.njerumoy_read_cof as read-cof-fn
 use Rattle.ffi.proofs.listed.njerumoy_field_listed as field-listed-fn
@@ -13,6 +16,8 @@ use Rattle.ffi.proofs.days.njerumoy_epoch as epoch-fn
 use Rattle.ffi.proofs.records.njerumoy_horizontal as horizontal-fn
 use Rattle.ffi.proofs.records.njerumoy_total as total-fn
 use Rattle.ffi.proofs.records.njerumoy_zone as zone-fn
+use Rattle.ffi.proofs.records.njerumoy_field_declination as field-declination-fn
+use Rattle.ffi.proofs.records.njerumoy_inclination as inclination-fn
 use Rattle.ffi.proofs.records.njerumoy_declination_uncertainty as declination-uncertainty-fn
 use Rattle.ffi.proofs.records.njerumoy_grid_variation as grid-variation-fn
 use Rattle.ffi.proofs.records.njerumoy_square_root as square-root-fn
@@ -21,6 +26,17 @@ use Rattle.ffi.proofs.records.njerumoy_square_root as square-root-fn
 same : {A : Type 0} {t x y : A} → x ≡ t → y ≡ t → x ≡ y
 same e f = e ∙ sym f
 
+pub njerumoy-sine-and-cosine : OneResult sine-and-cosine-fn.Kinds.ps sine-and-cosine-fn.Kinds.r sine-and-cosine-fn.Reads.Post
+njerumoy-sine-and-cosine κs a x y u v p q =
+    let sine = same (p .1) (q .1) in
+    let cosine = same (p .2) (q .2) in
+    (same (p .0) (q .0), λ i. (tt, (sine i, (cosine i, tt))))
+
+pub njerumoy-declination : OneResult declination-fn.Kinds.ps declination-fn.Kinds.r declination-fn.Reads.Post
+njerumoy-declination κs a x y u v p q =
+    let declination = same (p .1) (q .1) in
+    (same (p .0) (q .0), λ i. (tt, (tt, (declination i, tt))))
+
 pub njerumoy-field : OneResult field-fn.Kinds.ps field-fn.Kinds.r field-fn.Reads.Post
 njerumoy-field κs a x y u v p q =
     let xyz = same (p .0 .1) (q .0 .1) in
@@ -28,6 +44,14 @@ njerumoy-field κs a x y u v p q =
     let entry = same (p .0 .3) (q .0 .3) in
     let years = same (p .0 .4) (q .0 .4) in
     (same (p .0 .0) (q .0 .0), λ i. (tt, (tt, (tt, (tt, (tt, (tt, (tt, (tt, (tt, (tt, (tt, (tt, (xyz i, (errors i, (entry i, (years i, tt)))))))))))))))))
+
+pub njerumoy-field-in-degrees : OneResult field-in-degrees-fn.Kinds.ps field-in-degrees-fn.Kinds.r field-in-degrees-fn.Reads.Post
+njerumoy-field-in-degrees κs a x y u v p q =
+    let xyz = same (p .0 .1) (q .0 .1) in
+    let errors = same (p .0 .2) (q .0 .2) in
+    let entry = same (p .0 .3) (q .0 .3) in
+    let years = same (p .0 .4) (q .0 .4) in
+    (same (p .0 .0) (q .0 .0), λ i. (tt, (tt, (tt, (tt, (tt, (tt, (tt, (tt, (tt, (tt, (xyz i, (errors i, (entry i, (years i, tt)))))))))))))))
 
 pub njerumoy-allowance : OneResult allowance-fn.Kinds.ps allowance-fn.Kinds.r allowance-fn.Reads.Post
 njerumoy-allowance κs a x y u v p q =
@@ -62,6 +86,16 @@ pub njerumoy-zone : OneResult zone-fn.Kinds.ps zone-fn.Kinds.r zone-fn.Reads.Pos
 njerumoy-zone κs a x y u v p q =
     let zone = same (p .1) (q .1) in
     (same (p .0) (q .0), λ i. (tt, (tt, (tt, (zone i, tt)))))
+
+pub njerumoy-field-declination : OneResult field-declination-fn.Kinds.ps field-declination-fn.Kinds.r field-declination-fn.Reads.Post
+njerumoy-field-declination κs a x y u v p q =
+    let declination = same (p .1) (q .1) in
+    (same (p .0) (q .0), λ i. (tt, (tt, (tt, (declination i, tt)))))
+
+pub njerumoy-inclination : OneResult inclination-fn.Kinds.ps inclination-fn.Kinds.r inclination-fn.Reads.Post
+njerumoy-inclination κs a x y u v p q =
+    let inclination = same (p .1) (q .1) in
+    (same (p .0) (q .0), λ i. (tt, (tt, (tt, (inclination i, tt)))))
 
 pub njerumoy-declination-uncertainty : OneResult declination-uncertainty-fn.Kinds.ps declination-uncertainty-fn.Kinds.r declination-uncertainty-fn.Reads.Post
 njerumoy-declination-uncertainty κs a x y u v p q =

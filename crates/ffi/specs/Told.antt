@@ -7,6 +7,7 @@ use lib.IntN.{ℤ, pos, natAbs}
 use lib.ListN.{getD}
 use lib.Ieee.{Float, binary32, ofBits}
 use Rattle.refusals.specs.Paper.{Paper, answered, refused}
+use Rattle.trig.specs.declared.Pair.{Pair}
 use Rattle.models.specs.declared.epochs.EpochOffset.{EpochOffset}
 use Rattle.synthesis.specs.declared.Xyz.{Xyz}
 use Rattle.strengths.specs.declared.GeomagneticField.{GeomagneticField}
@@ -72,7 +73,14 @@ yearOf e = e .«epoch_year»
 abbrev pub offsetOf : EpochOffset → Float
 offsetOf e = e .offset
 
--- a strength, as it is
+-- the two of a pair
+abbrev pub sineOf : Pair → Float
+sineOf p = p .sine
+
+abbrev pub cosineOf : Pair → Float
+cosineOf p = p .cosine
+
+-- a strength or a direction, as it is
 abbrev pub itself : Float → Float
 itself x = x
 

@@ -1,4 +1,4 @@
-// Field and Allowance.
+// Field, Field in degrees, and Allowance.
 use crate::refuse::note_entry;
 use crate::refuse::note_years;
 use crate::tell::tell_field;
@@ -9,6 +9,7 @@ use refusals::number;
 use synthesis::Longitude;
 ghost use mathlib.Core.Path.{_≡_};
 ghost use Rattle.field.specs.Field.{asked, fieldSays};
+ghost use Rattle.degrees.specs.Degrees.{place, degreesSays};
 ghost use Rattle.allowance.specs.Allowance.{allowanceSays};
 ghost use Rattle.ffi.specs.Told.{numberOf, result, entryPlace, yearsPlace, fieldFloats, errorFloats, allowanceFloats};
 
@@ -49,6 +50,43 @@ pub extern "C" fn njerumoy_field(
         height,
         latitude,
         longitude,
+        day,
+        epoch_year,
+        g,
+        h,
+        g_dot,
+        h_dot,
+    );
+    tell_field(answer, xyz, errors, entry, years)
+}
+
+#[no_mangle]
+pub extern "C" fn njerumoy_field_in_degrees(
+    height: f32,
+    latitude_deg: f32,
+    longitude_deg: f32,
+    year: i32,
+    day_of_year: i32,
+    epoch_year: i32,
+    g: &[f32],
+    h: &[f32],
+    g_dot: &[f32],
+    h_dot: &[f32],
+    xyz: &mut [f32; 3],
+    errors: &mut [f32; 8],
+    entry: &mut [usize; 2],
+    years: &mut [i32; 2],
+) -> u32
+    ensures { λ r. ⌜ (let p = degreesSays (place height «latitude_deg» «longitude_deg» «epoch_year» (now (g .entry)) (now (h .entry)) (now («g_dot» .entry)) (now («h_dot» .entry))) year «day_of_year» in
+        (r ≡ numberOf p) × (now (xyz .exit) ≡ result fieldFloats (now (xyz .entry)) p) × (now (errors .exit) ≡ result errorFloats (now (errors .entry)) p)
+        × (now (entry .exit) ≡ entryPlace (now (entry .entry)) p) × (now (years .exit) ≡ yearsPlace (now (years .entry)) p)) ⌝ }
+    ensures kept { λ _. ⌜ (now (g .exit) ≡ now (g .entry)) × (now (h .exit) ≡ now (h .entry)) × (now («g_dot» .exit) ≡ now («g_dot» .entry)) × (now («h_dot» .exit) ≡ now («h_dot» .entry)) ⌝ }
+{
+    let day = Day { year, day_of_year };
+    let answer = degrees::field_in_degrees(
+        height,
+        latitude_deg,
+        longitude_deg,
         day,
         epoch_year,
         g,

@@ -1,4 +1,4 @@
-// The strengths over three components, grid variation, and the square root.
+// The strengths and the directions over three components, grid variation, and the square root.
 use crate::tell::tell_strength;
 use models::WmmErrorModel;
 use refusals::number;
@@ -9,6 +9,7 @@ use strengths::ZoneAnswer;
 ghost use mathlib.Core.Path.{_≡_};
 ghost use Rattle.roots.specs.Answer.{rootSays};
 ghost use Rattle.strengths.specs.Strengths.{hOf, fOf, strengthSays, zoneSays, uncertaintySays};
+ghost use Rattle.strengths.specs.Angles.{declinationOf, inclinationOf};
 ghost use Rattle.strengths.specs.Grid.{gridSays};
 ghost use Rattle.ffi.specs.Told.{numberOf, result, itself, zoneNumber, isGiven, variationPlace, bare};
 
@@ -65,6 +66,22 @@ pub extern "C" fn njerumoy_zone(x: f32, y: f32, z: f32, zone: &mut u32) -> u32
         }
         ZoneAnswer::Refused(k) => number(k),
     }
+}
+
+#[no_mangle]
+pub extern "C" fn njerumoy_field_declination(x: f32, y: f32, z: f32, declination: &mut f32) -> u32
+    ensures { λ r. ⌜ (let p = strengthSays (bare x y z) (declinationOf (bare x y z)) in
+        (r ≡ numberOf p) × (now (declination .exit) ≡ result itself (now (declination .entry)) p)) ⌝ }
+{
+    tell_strength(bare_record(x, y, z).declination(), declination)
+}
+
+#[no_mangle]
+pub extern "C" fn njerumoy_inclination(x: f32, y: f32, z: f32, inclination: &mut f32) -> u32
+    ensures { λ r. ⌜ (let p = strengthSays (bare x y z) (inclinationOf (bare x y z)) in
+        (r ≡ numberOf p) × (now (inclination .exit) ≡ result itself (now (inclination .entry)) p)) ⌝ }
+{
+    tell_strength(bare_record(x, y, z).inclination(), inclination)
 }
 
 #[no_mangle]

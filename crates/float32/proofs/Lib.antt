@@ -1,4 +1,6 @@
 -- Laws that other crates cite.
 pub mod Checks
 pub mod Bits
+pub mod Patterns
+pub mod Values
 pub mod Unique

@@ -17,3 +17,4 @@ pub use Rattle.allowance.proofs.Unique.{allowance}
 pub use Rattle.ffi.proofs.Unique.{njerumoy-field, njerumoy-allowance, njerumoy-sum, njerumoy-epoch, njerumoy-horizontal, njerumoy-total}
 pub use Rattle.ffi.proofs.Unique.{njerumoy-zone, njerumoy-declination-uncertainty, njerumoy-grid-variation, njerumoy-square-root, njerumoy-read-cof}
 pub use Rattle.ffi.proofs.Unique.{njerumoy-field-listed, njerumoy-declination-uncertainty-listed}
+pub use Rattle.ffi.proofs.Unique.{njerumoy-sine-and-cosine, njerumoy-declination, njerumoy-field-declination, njerumoy-inclination, njerumoy-field-in-degrees}

@@ -47,6 +47,7 @@ cases v =
     Refusal.Malformed (natAbs (whole v 0)) ∷
     Refusal.OutOfOrder (natAbs (whole v 0)) ∷
     Refusal.NoErrorRecord ∷
+    Refusal.Angle ∷
     []
 
 -- the first refusal of the list that has the number n
@@ -71,6 +72,7 @@ read-back Refusal.Unusable = refl
 read-back (Refusal.Malformed i) = refl
 read-back (Refusal.OutOfOrder i) = refl
 read-back Refusal.NoErrorRecord = refl
+read-back Refusal.Angle = refl
 
 line-of : {A : Type 0} → Paper A → Line
 line-of (answered a) = carries 0 [] []

@@ -35,6 +35,7 @@ line Refusal.Unusable = carries 12 [] []
 line (Refusal.Malformed i) = carries 13 [] (pos i ∷ [])
 line (Refusal.OutOfOrder i) = carries 14 [] (pos i ∷ [])
 line Refusal.NoErrorRecord = carries 15 [] []
+line Refusal.Angle = carries 16 [] []
 
 -- what a call says: its answer, or a refusal's number with the floats and the whole numbers that it carries
 pub data Paper (A : Type 0) : Type 0 where

@@ -40,6 +40,8 @@ pub enum Refusal {
     OutOfOrder { line: usize },
     // 15: a lent list has no error record of the year.
     NoErrorRecord,
+    // 16: of a latitude or a longitude in degrees, or of any other angle.
+    Angle,
 }
 
 // A refusal's number.
@@ -62,6 +64,7 @@ pub fn number(k: Refusal) -> u32
         Refusal::Malformed { .. } => 13,
         Refusal::OutOfOrder { .. } => 14,
         Refusal::NoErrorRecord => 15,
+        Refusal::Angle => 16,
     }
 }
 

@@ -82,11 +82,20 @@ pub fn place(line: &[u8], set: &[f32]) -> Reply {
     told(asked(line, 5, set))
 }
 
-// A strength as a word. The strengths of a record are all refused or none, and H's refusal is told.
-fn value(a: StrengthAnswer) -> u64 {
+// A strength or a direction as a word. Those of a record are all refused or none, and the refusal of
+// the first one is told.
+pub fn value(a: StrengthAnswer) -> u64 {
     match a {
         StrengthAnswer::Strength(v) => replies::float(v),
         StrengthAnswer::Refused(_) => WRONG,
+    }
+}
+
+// The same as a reply of its own.
+pub fn value_told(a: StrengthAnswer) -> Reply {
+    match a {
+        StrengthAnswer::Strength(v) => replies::few(OK, replies::float(v), END, END, END, END),
+        StrengthAnswer::Refused(why) => replies::refusal(why),
     }
 }
 

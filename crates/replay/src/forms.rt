@@ -29,6 +29,14 @@ pub const FLIST: u64 = 0x46_4c_49_53_54;
 
 pub const ULIST: u64 = 0x55_4c_49_53_54;
 
+pub const TRIG: u64 = 0x54_52_49_47;
+
+pub const DECL: u64 = 0x44_45_43_4c;
+
+pub const DIR: u64 = 0x44_49_52;
+
+pub const FDEG: u64 = 0x46_44_45_47;
+
 // What follows the first word, which ends at `at`: floats, then years and days, then the floats of a
 // published row or a list of error records.
 pub struct Form {
@@ -67,6 +75,10 @@ pub fn form_of(word: u64) -> Form {
         COF => made(3, 0, 0, 0),
         FLIST => made(5, 5, 2, RECORDS),
         ULIST => made(5, 3, 1, RECORDS),
+        TRIG => made(4, 1, 0, 0),
+        DECL => made(4, 2, 0, 0),
+        DIR => made(3, 3, 0, 0),
+        FDEG => made(4, 3, 2, 0),
         _ => made(NOWHERE, 0, 0, 0),
     }
 }

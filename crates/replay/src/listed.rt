@@ -2,16 +2,12 @@
 // a year and eight figures.
 use crate::fields;
 use crate::read;
-use crate::replies;
-use crate::replies::END;
-use crate::replies::OK;
 use crate::replies::Reply;
 use crate::sets;
 use field::FieldAnswer;
 use models::ErrorModelAnswer;
 use models::ErrorRecord;
 use models::WmmErrorModel;
-use strengths::StrengthAnswer;
 ghost use Prim.Native.Nat.{_≤_};
 
 // The figures of the first of `n` records that is of the year. This function alone lends records: its
@@ -93,15 +89,8 @@ pub fn place(line: &[u8], set: &[f32]) -> Reply {
     ))
 }
 
-fn uncertainty_told(a: StrengthAnswer) -> Reply {
-    match a {
-        StrengthAnswer::Strength(v) => replies::few(OK, replies::float(v), END, END, END, END),
-        StrengthAnswer::Refused(why) => replies::refusal(why),
-    }
-}
-
 pub fn uncertainty(line: &[u8]) -> Reply {
     let year = read::int(line, 32);
     let figures = found(line, year.next, read::signed(year.value));
-    uncertainty_told(fields::components(line, 5).uncertainty_with(figures))
+    fields::value_told(fields::components(line, 5).uncertainty_with(figures))
 }

@@ -1,4 +1,5 @@
 // Reads case lines from standard input, and writes each back with its own answer.
+mod angles;
 mod answers;
 mod blocks;
 mod fields;

@@ -16,7 +16,7 @@ use Rattle.roots.specs.Parts.{Lifted, Packed, spread, shift}
 use Rattle.float32.proofs.Bits.{float-back, low-no-nan}
 use Rattle.roots.proofs.Powers.{digits, places}
 use Rattle.roots.proofs.Whole.{spread-even, spread-odd}
-use Rattle.roots.proofs.Patterns.{pattern, subnormal, not-positive}
+use Rattle.float32.proofs.Patterns.{pattern, subnormal, not-positive}
 
 pub is-no-nan : (x : Float) → T (rootable x) → T (not (isNan x))
 unfolding rootable isNan

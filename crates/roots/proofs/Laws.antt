@@ -20,7 +20,7 @@ use Rattle.roots.specs.Parts.{Nearest, Lifted, spread, shift}
 use Rattle.float32.proofs.Bits.{float-back}
 use Rattle.roots.proofs.Powers.{placed, lift, M, F}
 use Rattle.roots.proofs.Whole.{nearest-is, spread-even, spread-odd}
-use Rattle.roots.proofs.Patterns.{pattern, subnormal, not-positive}
+use Rattle.float32.proofs.Patterns.{pattern, subnormal, not-positive}
 use Rattle.roots.proofs.Floats.{keeps, value, units-is, root-written}
 use Rattle.roots.proofs.Spacing.{up-is-farther, down-is-farther, square-lt, relative-up, relative-down, square-up, square-down}
 

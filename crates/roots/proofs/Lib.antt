@@ -2,7 +2,6 @@
 mod Squares
 mod Whole
 mod Powers
-mod Patterns
 mod Floats
 mod Spacing
 pub mod Signs

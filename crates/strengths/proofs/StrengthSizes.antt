@@ -75,6 +75,12 @@ component : (x : Float) → T (capped max-component x) → Leaf (2 ^ 60) x
 unfolding capped ofBits
 component x t = size-leaf (2 ^ 60) _ _ x (lit≤ tt) t
 
+leaf-finite : (x : Float) → Leaf (2 ^ 60) x → T (finite x)
+leaf-finite x l = finite-is x (l .p) (l .q) (l .d) (l .is)
+
+pub component-finite : (x : Float) → T (capped max-component x) → T (finite x)
+component-finite x t = leaf-finite x (component x t)
+
 module _ (v : GeomagneticField) (u : usable v ≡ true) where
   components : Leaf (2 ^ 60) (v .x) × Leaf (2 ^ 60) (v .y) × Leaf (2 ^ 60) (v .z)
   unfolding usable
@@ -94,6 +100,13 @@ module _ (v : GeomagneticField) (u : usable v ≡ true) where
 
   pub h-finite : T (finite (hOf v))
   h-finite = h-fit .is-finite
+
+  -- it has no minus
+  pub h-clear : T (clear (hOf v))
+  h-clear = h-fit .is-clear
+
+  pub components-finite : T (finite (v .x)) × T (finite (v .y)) × T (finite (v .z))
+  components-finite = (leaf-finite (v .x) (components .0), leaf-finite (v .y) (components .1), leaf-finite (v .z) (components .2))
 
   pub h-most : T (le (hOf v) (ofBits binary32 0x5e800000))
   unfolding ofBits

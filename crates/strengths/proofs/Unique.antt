@@ -5,6 +5,9 @@ use Rattle.refusals.specs.OneResult.{OneResult, OneAnswer}
 use Rattle.refusals.proofs.Clauses.{both-say-first}
 use Rattle.strengths.proofs.GeomagneticField.h as h-fn
 use Rattle.strengths.proofs.GeomagneticField.f as f-fn
+use Rattle.strengths.proofs.declination as declination-fn
+use Rattle.strengths.proofs.GeomagneticField.declination as field-declination-fn
+use Rattle.strengths.proofs.GeomagneticField.inclination as inclination-fn
 use Rattle.strengths.proofs.GeomagneticField.declination_warning as declination-warning-fn
 use Rattle.strengths.proofs.GeomagneticField.declination_uncertainty as declination-uncertainty-fn
 use Rattle.strengths.proofs.GeomagneticField.uncertainty_with as uncertainty-with-fn
@@ -16,6 +19,15 @@ h κs a x y u v p q = (strength-one _ x y p q, refl)
 
 pub f : OneResult f-fn.Kinds.ps f-fn.Kinds.r f-fn.Reads.Post
 f κs a x y u v p q = (strength-one _ x y p q, refl)
+
+pub declination : OneResult declination-fn.Kinds.ps declination-fn.Kinds.r declination-fn.Reads.Post
+declination κs a x y u v p q = (strength-one _ x y (p .0) (q .0), refl)
+
+pub field-declination : OneResult field-declination-fn.Kinds.ps field-declination-fn.Kinds.r field-declination-fn.Reads.Post
+field-declination κs a x y u v p q = (strength-one _ x y (p .0) (q .0), refl)
+
+pub inclination : OneResult inclination-fn.Kinds.ps inclination-fn.Kinds.r inclination-fn.Reads.Post
+inclination κs a x y u v p q = (strength-one _ x y (p .0) (q .0), refl)
 
 pub declination-warning : OneResult declination-warning-fn.Kinds.ps declination-warning-fn.Kinds.r declination-warning-fn.Reads.Post
 declination-warning κs a x y u v p q = (zone-one _ x y p q, refl)

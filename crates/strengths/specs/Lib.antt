@@ -1,3 +1,4 @@
--- Definitions: Strengths, Grid.
+-- Definitions: Strengths, Angles, Grid.
 pub mod Strengths
+pub mod Angles
 pub mod Grid

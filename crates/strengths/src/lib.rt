@@ -7,6 +7,7 @@ use refusals::Refusal;
 ghost use mathlib.Core.Path.{_≡_};
 ghost use lib.Ieee.{binary32, div};
 ghost use Rattle.models.specs.Errors.{errorSaid};
+ghost use Rattle.strengths.specs.Angles.{declinationSays, declinationOf, inclinationOf, AngleOf};
 ghost use Rattle.strengths.specs.Strengths.{usable, hypotOf, hOf, fOf, strengthSaid, strengthSays, zoneSaid, zoneSays, clamped, uncertaintyWith, uncertaintySays, listedUncertainty};
 
 mod grid;
@@ -49,6 +50,21 @@ fn hypot(a: f32, b: f32) -> f32
     roots::sqrt(a * a + b * b)
 }
 
+// The declination of a field of x to the north and y to the east: the angle from the north to the
+// east, from -180 to 180 degrees.
+pub fn declination(x: f32, y: f32) -> StrengthAnswer
+    ensures answer { λ r. ⌜ strengthSaid r ≡ declinationSays x y ⌝ }
+    ensures distance { λ r. ⌜ AngleOf x y r ⌝ }
+{
+    if float32::over_cap(x, MAX_COMPONENT) {
+        return StrengthAnswer::Refused(Refusal::Unusable);
+    }
+    if float32::over_cap(y, MAX_COMPONENT) {
+        return StrengthAnswer::Refused(Refusal::Unusable);
+    }
+    StrengthAnswer::Strength(direction::direction(x, y))
+}
+
 // A root that is no number below 180, as at H = 0, is shown as 180.
 fn uncertainty(sigma_c: f32, sigma_v: f32, h: f32) -> f32
     ensures { λ r. ⌜ r ≡ clamped (hypotOf «sigma_c» (div binary32 «sigma_v» h)) ⌝ }
@@ -89,6 +105,27 @@ impl GeomagneticField {
             return StrengthAnswer::Refused(Refusal::Unusable);
         }
         StrengthAnswer::Strength(hypot(hypot(self.x, self.y), self.z))
+    }
+
+    pub fn declination(self) -> StrengthAnswer
+        ensures answer { λ r. ⌜ strengthSaid r ≡ strengthSays self (declinationOf self) ⌝ }
+        ensures distance { λ r. ⌜ AngleOf (self .x) (self .y) r ⌝ }
+    {
+        if !self.is_usable() {
+            return StrengthAnswer::Refused(Refusal::Unusable);
+        }
+        StrengthAnswer::Strength(direction::direction(self.x, self.y))
+    }
+
+    // The angle of Z over H: from -90 to 90 degrees, down positive.
+    pub fn inclination(self) -> StrengthAnswer
+        ensures answer { λ r. ⌜ strengthSaid r ≡ strengthSays self (inclinationOf self) ⌝ }
+        ensures distance { λ r. ⌜ AngleOf (hOf self) (self .z) r ⌝ }
+    {
+        if !self.is_usable() {
+            return StrengthAnswer::Refused(Refusal::Unusable);
+        }
+        StrengthAnswer::Strength(direction::direction(hypot(self.x, self.y), self.z))
     }
 
     pub fn declination_warning(self) -> ZoneAnswer

@@ -3,9 +3,9 @@
 use super::records::{found_list, group_at, planned, planned_lists, put_figure, random_list};
 use super::rng::{Rng, Walk};
 use super::values::step;
-use super::{damage, Generator, Kind};
+use super::{Generator, Kind};
 use crate::entries::Set;
-use crate::format::{put_case, Case};
+use crate::format::Case;
 use crate::listed::{Asked, Listed};
 use crate::models::{date_to_epoch_year, WmmErrorModel};
 
@@ -83,19 +83,6 @@ impl Generator {
     /// The set in force.
     pub fn set(&self) -> &Set {
         &self.replay.set
-    }
-
-    /// Writes a line of FLIST or ULIST, once in 32 times a damaged one.
-    pub fn listed_line(&mut self, kind: Kind, out: &mut Vec<u8>) {
-        if self.rng.once_in(32) {
-            return damage::damaged_line(self, out, |generator, out| {
-                let mut line = Vec::new();
-                put_case(&mut line, &Case::Listed(generator.listed(kind, out)));
-                line
-            });
-        }
-        let case = Case::Listed(self.listed(kind, out));
-        self.replay.case(&case, out);
     }
 
     /// A case of FLIST or ULIST. Before it stands a SET line where another set's turn has come.

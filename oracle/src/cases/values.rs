@@ -41,7 +41,7 @@ pub fn common() -> Vec<f32> {
 }
 
 /// The common pool, and each of `ends` with its neighbours up to two steps away.
-fn around(ends: &[f32]) -> Vec<f32> {
+pub fn around(ends: &[f32]) -> Vec<f32> {
     let mut pool = common();
     for end in ends {
         for k in -2..=2 {

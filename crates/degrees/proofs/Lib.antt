@@ -1,0 +1,4 @@
+-- `Laws` is what other crates cite.
+mod Ways
+pub mod Laws
+pub mod Unique

@@ -1,0 +1,2 @@
+-- The words of the contract.
+pub mod Degrees
