@@ -11,6 +11,7 @@ use lib.Ieee.{Float, nan, inf, fin, binary32, ofBits, fits, neg, lt, eq, up, dow
 use lib.Ieee.Fits.{down-pos, up-pos}
 use lib.Ieee.Scale.{finite}
 use lib.Ieee.Bits.{is-true}
+use borrow.Author.Tests.{not-true, not-false}
 use Rattle.exact.specs.Exact.{unitsOf}
 use Rattle.exact.proofs.Round.{whole-units}
 use Rattle.float32.specs.Bits.{bitsOf}
@@ -74,12 +75,10 @@ both x y d h e = (e, said-points x y d (subst T (sym h) tt) e)
 -- ---- the ways of `direction`
 -- what the test of a number finds
 pub now-finite : (x : Float) (r : Bool) → r ≡ finite x → not r ≡ false → T (finite x)
-now-finite x true e f = subst T e tt
-now-finite x false e f = absurd (true≢false f)
+now-finite x r e f = subst T (sym (not-false r f) ∙ e) tt
 
 pub not-finite : (x : Float) (r : Bool) → r ≡ finite x → not r ≡ true → finite x ≡ false
-not-finite x true e f = absurd (true≢false (sym f))
-not-finite x false e f = sym e
+not-finite x r e f = sym e ∙ not-true r f
 
 pub no-number : (d : Float) → d ≡ ofBits binary32 0x7fc00000 → d ≡ nan
 unfolding ofBits

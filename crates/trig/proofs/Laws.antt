@@ -26,7 +26,7 @@ use Rattle.float32.proofs.Values.{negated}
 use Rattle.trig.proofs.Squares.{n-most}
 use Rattle.trig.proofs.Whole.{sine-at, cosine-at}
 use Rattle.trig.proofs.Small.{small-sine, small-cosine}
-use Rattle.trig.proofs.Turn.{lifts, lifted-most, lifted-same, Near, at-tiny, at-normal, at-large, y-range, turned-small, turned-90, turned-135, turned-180, turned-back}
+use Rattle.trig.proofs.Turn.{above, lifts, lifted-most, lifted-same, Near, at-tiny, at-normal, at-large, y-range, turned-small, turned-90, turned-135, turned-180, turned-back}
 use Rattle.trig.proofs.Entry.{normal-most, unsigned, accepted-size, accepted-finite, accepted-bits, all-accepted}
 use Rattle.trig.proofs.OnCircle.{circle-above, circle-below}
 use Rattle.trig.proofs.Tested.{on-circle}
@@ -49,10 +49,6 @@ small-turned m k n d e l h g t u = turned-small n d (smallPair m k) (n-most m k 
 -- the pair of an angle from 45 degrees on, by that of what is left: up to 90 degrees, up to 135, and beyond
 abbrev quadrant : Bool → Bool → Pair → Pair
 quadrant p q r = cond p (less90 r) (cond q (more90 r) (less180 r))
-
-above : (x : ℕ) → (x ≡ 0 → ⊥) → 0 < x
-above zero f = absurd (f refl)
-above (suc x) f = omega arith
 
 module _ (b n d : ℕ) (top : b ≤ 1127481344) (g : 0 < d) (v : HasValue (ofBits binary32 b) false n d) where
   far-turned : 1110704128 < b → Turned false n d (farPair ((b % 8388608 + 8388608) * 2 ^ (b / 8388608 - 132)))

@@ -16,6 +16,10 @@ use Rattle.float32.proofs.Values.{cancel, powers, same, normal, few}
 use Rattle.trig.specs.Fixed.{liftBy}
 use Rattle.trig.specs.Angle.{SineOf, CosineOf, Turned}
 
+pub above : (x : ℕ) → (x ≡ 0 → ⊥) → 0 < x
+above zero f = absurd (f refl)
+above (suc x) f = omega arith
+
 -- ---- lifting
 -- y of 2 ^ -18 degree is m / (2 ^ k * 2 ^ 18) degrees
 pub record Lifted (y m k : ℕ) : Type 0 where
@@ -73,10 +77,10 @@ lifts y h = go (eqb y 0) refl
         let k : liftBy y ≡ 131 = lift-zero y z in
         record { same = refl; less = rw (k, z) (lit< tt); few = omega arith; most = λ l. absurd (omega arith) }
     go false e =
-        let p : 0 < y = (let w = eqb-false y 0 e in pos-of y w) in
+        let p : 0 < y = (let w = eqb-false y 0 e in above y w) in
         let k : liftBy y ≡ 24 - size y = lift-some y p in
         let s : size y ≤ 24 = size-le y 24 (omega arith) in
-        let n : 0 < size y = pos-of (size y) (λ z. let w : y < 2 ^ 0 = (let x = size-lt y in rw z at x) in omega arith) in
+        let n : 0 < size y = above (size y) (λ z. let w : y < 2 ^ 0 = (let x = size-lt y in rw z at x) in omega arith) in
         let a : 2 ^ (size y) * 2 ^ (24 - size y) ≡ 2 ^ 24 = powers (size y) (24 - size y) 24 (omega arith) in
         let b : 2 ^ (size y - 1) * 2 ^ (24 - size y) ≡ 2 ^ 23 = powers (size y - 1) (24 - size y) 23 (omega arith) in
         let m : y * 2 ^ liftBy y ≡ y * 2 ^ (24 - size y) = ap (λ (x : ℕ). y * 2 ^ x) k in
@@ -86,10 +90,6 @@ lifts y h = go (eqb y 0) refl
           few = omega arith;
           most = λ l. le-trans (le-of-eq (sym b)) (le-trans (mul-le-mul-right (2 ^ (24 - size y)) (size-reaches y (size y - 1) (omega arith))) (le-of-eq (sym m)));
         }
-      where
-        pos-of : (x : ℕ) → (x ≡ 0 → ⊥) → 0 < x
-        pos-of zero f = absurd (f refl)
-        pos-of (suc x) f = omega arith
 
 pub lifted-most : (y m k : ℕ) → y ≤ 11796480 → y * 2 ^ k ≡ m → m ≤ 11796480 * 2 ^ k
 lifted-most y m k h e = le-trans (le-of-eq (sym e)) (mul-le-mul-right (2 ^ k) h)

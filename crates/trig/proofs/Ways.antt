@@ -5,7 +5,7 @@ use native.Mathlib.Omega.{arith}
 use mathlib.Core.Bool.{Bool, true, false, not}
 use lib.Dec.{T}
 use lib.Ieee.{Float, binary32, ofBits, fits}
-use borrow.Author.Tests.{lt-leb, le-leb, lt-ltb, le-ltb, eq-eqb, ne-eqb}
+use borrow.Author.Tests.{not-true, not-false, lt-leb, le-leb, lt-ltb, le-ltb, eq-eqb, ne-eqb}
 use Rattle.exact.specs.Tests.{between}
 use Rattle.float32.specs.Bits.{bitsOf, floatOf}
 use Rattle.trig.specs.declared.Pair.{Pair}
@@ -60,19 +60,14 @@ module _ (y : ℕ) where
     far-180 g h = rw (lt-leb y 23592960 g, lt-leb y 35389440 h) (ap (λ (q : Pair). less180 q) f)
 
 -- ---- the entry
--- a test, from its answer turned round
-pub flip : (b r t : Bool) → r ≡ not b → r ≡ t → b ≡ not t
-flip true r t e f = ap not (sym e ∙ f)
-flip false r t e f = ap not (sym e ∙ f)
-
 module _ (x : Float) (r : Bool) (e : r ≡ not (between (ofBits binary32 0xc3340000) (ofBits binary32 0x43340000) x)) where
   pub out : r ≡ true → accepted x ≡ false
   unfolding accepted
-  out f = flip _ r true e f
+  out f = not-true _ (sym e ∙ f)
 
   pub inside : r ≡ false → accepted x ≡ true
   unfolding accepted
-  inside f = flip _ r false e f
+  inside f = not-false _ (sym e ∙ f)
 
 pub bits-in : (x : Float) (b : ℕ) → fits binary32 x ≡ true → accepted x ≡ true → b ≡ bitsOf x → b % 2147483648 ≤ 1127481344
 bits-in x b h a e = rw e (accepted-bits x (subst T (sym h) tt) (subst T (sym a) tt))

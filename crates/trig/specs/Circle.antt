@@ -22,7 +22,8 @@ pub record Terms : Type 0 where
   pub over : ℕ → ℕ
 
 -- The first k + 1 terms, for s = u / v, one factor drawn out at a time: 1 - (times j) * s / (over j) * (1 - (times (j + 2)) * s / (over (j + 2)) * (1 - ..)).
--- For a positive s of which `times j * s ≤ over j` for all j, the sums of an even number of terms are below the series, and those of an uneven number above it.
+-- For a positive s of which `times j * s ≤ over j` for all j, the sums of an even number of terms are below the series, and those of an uneven number above it;
+-- and no difference is cut off at zero (`whole` in proofs/Sums.antt).
 unfoldable pub nested : Terms → ℕ → ℕ → ℕ → ℕ → Ratio
 nested t zero j u v = record { top = 1; bottom = 1 }
 nested t (suc k) j u v =
