@@ -1,10 +1,12 @@
 -- The ways to a verdict, and what a verdict says of what is lent. Assumes nothing.
 use mathlib.Core.Path.{_≡_, refl, sym, ap, subst, _∙_}
-use mathlib.Core.Bool.{Bool, true, false, not, _&&_}
+use mathlib.Core.Bool.{Bool, true, false, not, cond, _&&_}
 use mathlib.Core.List.{List, [], _∷_}
-use Prim.Native.Nat.{ℕ, suc, _+_, _<_}
+use Prim.Native.Nat.{ℕ, zero, suc, _+_, _<_, _≤_}
+use native.Mathlib.Omega.{arith}
 use native.Mathlib.Numerals.{add-one}
-use borrow.Author.Tests.{eqb-true, not-true, not-false}
+use native.Mathlib.Nat.{zero-add}
+use borrow.Author.Tests.{eqb-true, ne-eqb, not-true, not-false}
 use lib.Dec.{T, eqb}
 use lib.IntN.{ℤ, pos}
 use lib.ListN.{length, getD, drop}
@@ -80,6 +82,32 @@ module _ (lo hi : Float) (s : List Float) (i : ℕ) (ok all : Bool) (h : i < len
   bad-all n =
       let b : between lo hi (getD s i nan) ≡ false = not-true (between lo hi (getD s i nan)) n in
       e ∙ ap (λ (t : Bool). ok && t) (between-next lo hi s i h ∙ ap (λ (t : Bool). t && all-between lo hi (drop (i + 1) s)) b) ∙ and-false ok
+
+-- a flag is 1 where a test fails, else 0. Flags add to 0 where each is 0
+pub flag-of : (n : ℕ) (b : Bool) → n ≤ 1 → b ≡ eqb n 0 → n ≡ cond b 0 1
+flag-of zero b h e = rw e
+flag-of (suc zero) b h e = rw e
+flag-of (suc (suc n)) b h e = absurd (omega arith)
+
+flag-none : (b : Bool) → eqb (cond b 0 1) 0 ≡ b
+flag-none true = refl
+flag-none false = refl
+
+none-added : (m n : ℕ) → eqb (m + n) 0 ≡ eqb m 0 && eqb n 0
+none-added zero n = ap (λ (k : ℕ). eqb k 0) (zero-add n)
+none-added (suc m) n = rw (ne-eqb (suc m + n) 0 (λ z. omega arith), ne-eqb (suc m) 0 (λ z. omega arith))
+
+no-flag : (a b c d : Bool) → eqb (cond a 0 1 + cond b 0 1 + cond c 0 1 + cond d 0 1) 0 ≡ a && b && c && d
+no-flag a b c d =
+    rw (none-added (cond a 0 1 + cond b 0 1 + cond c 0 1) (cond d 0 1), none-added (cond a 0 1 + cond b 0 1) (cond c 0 1), none-added (cond a 0 1) (cond b 0 1))
+    (rw (flag-none a, flag-none b, flag-none c, flag-none d) refl)
+
+pub flags-decide : (g h gd hd : List Float) (m n k l : ℕ) → m ≡ cond (all-between (neg main-cap) main-cap g) 0 1 → n ≡ cond (all-between (neg main-cap) main-cap h) 0 1
+    → k ≡ cond (all-between (neg rate-cap) rate-cap gd) 0 1 → l ≡ cond (all-between (neg rate-cap) rate-cap hd) 0 1 → eqb (m + n + k + l) 0 ≡ withinOf g h gd hd
+unfolding withinOf
+flags-decide g h gd hd m n k l a b c d =
+    rw (a, b, c, d)
+    (no-flag (all-between (neg main-cap) main-cap g) (all-between (neg main-cap) main-cap h) (all-between (neg rate-cap) rate-cap gd) (all-between (neg rate-cap) rate-cap hd))
 
 -- nothing over a cap: the search finds nothing
 entries-pass : (n : ℕ) (d : ℤ) (k i : ℕ) (l : List Float) → T (all-between (neg (fin false n d)) (fin false n d) l) → entriesVerdict (fin false n d) k i l ≡ Verdict.Accepted

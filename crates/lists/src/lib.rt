@@ -3,6 +3,8 @@ use refusals::Refusal;
 use refusals::Verdict;
 use tables::N_COEFF;
 ghost use mathlib.Core.Path.{_≡_};
+ghost use mathlib.Core.Bool.{cond};
+ghost use Prim.Native.Nat.{_≤_};
 ghost use lib.Ieee.{neg};
 ghost use Rattle.exact.specs.Tests.{all-between};
 ghost use Rattle.lists.specs.Lists.{capsVerdict, entriesVerdict, listsVerdict, long, withinOf};
@@ -26,9 +28,11 @@ fn check_entries(list: u8, s: &[f32], cap: f32) -> Verdict
     Verdict::Accepted
 }
 
-// No early exit, so that it runs by lanes; and a flag as wide as an entry, so that no lane is narrowed.
-fn all_within(s: &[f32], cap: f32) -> bool
-    ensures { λ r. ⌜ r ≡ all-between (neg cap) cap (now (s .entry)) ⌝ }
+// 1 where an entry is over its cap, else 0. No early exit, so that it runs by lanes; and a flag as wide
+// as an entry, so that no lane is narrowed.
+fn outside_flag(s: &[f32], cap: f32) -> u32
+    ensures { λ r. ⌜ r ≡ cond (all-between (neg cap) cap (now (s .entry))) 0 1 ⌝ }
+    ensures { λ r. ⌜ r ≤ 1 ⌝ }
 {
     let mut bad = 0u32;
     let mut i = 0usize;
@@ -38,22 +42,18 @@ fn all_within(s: &[f32], cap: f32) -> bool
         }
         i += 1;
     }
-    bad == 0
+    bad
 }
 
+// All four are looked at before the one question.
 fn lists_within(g: &[f32], h: &[f32], g_dot: &[f32], h_dot: &[f32]) -> bool
     ensures { λ r. ⌜ r ≡ withinOf (now (g .entry)) (now (h .entry)) (now («g_dot» .entry)) (now («h_dot» .entry)) ⌝ }
 {
-    if !all_within(g, MAIN_CAP) {
-        return false;
-    }
-    if !all_within(h, MAIN_CAP) {
-        return false;
-    }
-    if !all_within(g_dot, RATE_CAP) {
-        return false;
-    }
-    all_within(h_dot, RATE_CAP)
+    let a = outside_flag(g, MAIN_CAP);
+    let b = outside_flag(h, MAIN_CAP);
+    let c = outside_flag(g_dot, RATE_CAP);
+    let d = outside_flag(h_dot, RATE_CAP);
+    a + b + c + d == 0
 }
 
 // Each of the four is 90 long.

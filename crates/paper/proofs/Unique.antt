@@ -4,7 +4,7 @@
 pub use Rattle.refusals.proofs.Unique.{number}
 pub use Rattle.float32.proofs.Unique.{is-finite, abs, over-cap, outside, off-circle, to-bits, from-bits}
 pub use Rattle.roots.proofs.Unique.{sqrt, sqrt-by-guess, square-root}
-pub use Rattle.tables.proofs.Unique.{schmidt-table, legendre-k}
+pub use Rattle.tables.proofs.Unique.{schmidt-table, legendre-k, legendre-k-over}
 pub use Rattle.models.proofs.Unique.{known-epoch, epoch, error-model-by-epoch-year, error-model-listed}
 pub use Rattle.geocentric.proofs.Unique.{geodetic-to-geocentric, radius-ratio}
 pub use Rattle.synthesis.proofs.Unique.{sum}

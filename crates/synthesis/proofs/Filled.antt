@@ -1,4 +1,4 @@
--- A list that a loop fills from its start: the coefficients at the date, and the angles.
+-- A list that a loop fills from its start: the angles, and the start values.
 use mathlib.Core.Path.{_≡_, refl, ap}
 use mathlib.Core.List.{List, [], _∷_, _++_}
 use Prim.Native.Nat.{ℕ, zero, suc, _+_, _-_, _<_}
@@ -7,9 +7,8 @@ use native.Mathlib.Numerals.{add-one}
 use native.Mathlib.Omega.{arith}
 use lib.ListN.{length, getD, set, drop}
 use lib.Ieee.{Float, nan, binary32, add, sub, mul}
-use Rattle.tables.specs.Degree.{N-COEFF}
-use Rattle.sums.specs.Recurrence.{angle, coefficient}
-use Rattle.synthesis.specs.Code.{atDate, cosAt, first, sinAt, startAt}
+use Rattle.sums.specs.Recurrence.{angle}
+use Rattle.synthesis.specs.Code.{cosAt, first, sinAt, startAt}
 use Rattle.sums.specs.Arithmetic.{rounded}
 
 pub first-more : (f : ℕ → Float) (m : ℕ) (d : List Float) → m < length d → set (first f m ++ drop m d) m (f m) ≡ first f (suc m) ++ drop (suc m) d
@@ -30,10 +29,6 @@ unfolding first
 first-get f zero k h = absurd (not-suc-le-zero h)
 first-get f (suc m) zero h = refl
 first-get f (suc m) (suc k) h = first-get (λ j. f (suc j)) m k (le-of-suc-le-suc h)
-
-pub date-get : (main secular : List Float) (t : Float) (r : List Float) (k : ℕ) → r ≡ atDate main secular t → k < N-COEFF → getD r k nan ≡ coefficient rounded (getD main k nan) (getD secular k nan) t
-unfolding atDate
-date-get main secular t r k e h = rw e (first-get (λ j. coefficient rounded (getD main j nan) (getD secular j nan) t) N-COEFF k h)
 
 pub first-next : (f : ℕ → Float) (m : ℕ) (l d : List Float) (v : Float) → m < length d → l ≡ first f m ++ drop m d → v ≡ f m → set l m v ≡ first f (m + 1) ++ drop (m + 1) d
 first-next f m l d v h e ev = rw (e, ev, add-one) (first-more f m d h)

@@ -44,7 +44,7 @@ lowered-same c s k p o = (
 )
 
 -- ---- one more degree, from the two before
-pub lane-next : (i : Input Float) (n m : ℕ) → 0 < n → lane i n m ≡ cond (ltb n (4 * (m / 4))) (start i m) (laneStep i n m (lane i (n - 1) m) (lane i (n - 2) m))
+pub lane-next : (i : Input Float) (n m : ℕ) → 0 < n → lane i n m ≡ cond (ltb n (4 * (m / 4) + 1)) (start i m) (laneStep i n m (lane i (n - 1) m) (lane i (n - 2) m))
 unfolding lane
 lane-next i zero m z = absurd (not-suc-le-zero z)
 lane-next i (suc zero) m z = refl
@@ -53,10 +53,10 @@ lane-next i (suc (suc n)) m z =
     let v : suc (suc n) - 2 ≡ n = omega arith in
     rw (u, v) refl
 
--- before its four lanes are taken
-pub lane-idle : (i : Input Float) (n m : ℕ) → n < 4 * (m / 4) → lane i n m ≡ start i m
+-- before its four lanes take a step
+pub lane-idle : (i : Input Float) (n m : ℕ) → n < 4 * (m / 4) + 1 → lane i n m ≡ start i m
 lane-idle i zero m l = unfold lane in refl
-lane-idle i (suc n) m l = lane-next i (suc n) m (omega arith) ∙ rw (lt-ltb (suc n) (4 * (m / 4)) l) refl
+lane-idle i (suc n) m l = lane-next i (suc n) m (omega arith) ∙ rw (lt-ltb (suc n) (4 * (m / 4) + 1) l) refl
 
 -- ---- the branches of the row step
 module _ (c s k : Float) (n m : ℕ) (q' q r : Pair Float) where
@@ -132,8 +132,8 @@ module _ (i : Input Float) (w : Plain i) where
   above : (n m : ℕ) → n ≤ m → m ≤ N-MAX → SameP (lane i n m) (start i m)
   unfolding lane
   above zero m l M = (same, same)
-  above (suc zero) m l M = either (ltb 1 (4 * (m / 4))) (same, same) (kept 1 m l M (same, same) (same, same))
-  above (suc (suc n)) m l M = either (ltb (suc (suc n)) (4 * (m / 4))) (same, same) (kept (suc (suc n)) m l M (above (suc n) m (omega arith) M) (above n m (omega arith) M))
+  above (suc zero) m l M = either (ltb 1 (4 * (m / 4) + 1)) (same, same) (kept 1 m l M (same, same) (same, same))
+  above (suc (suc n)) m l M = either (ltb (suc (suc n)) (4 * (m / 4) + 1)) (same, same) (kept (suc (suc n)) m l M (above (suc n) m (omega arith) M) (above n m (omega arith) M))
 
   -- ---- a lane from its degree on
   -- below the degree the step is the row step's last branch
@@ -185,7 +185,7 @@ module _ (i : Input Float) (w : Plain i) where
       sym (lower-branch (i .cos-theta) (i .sin-theta) (i .K n m) n m q' _ _ l) ∙ row-next i n m (omega arith) (omega arith) q' _ _ (λ h. refl) (λ h. refl) (λ h. refl)
 
   taken : (n m : ℕ) → 0 < n → m < n → lane i n m ≡ lowered (i .cos-theta) (i .sin-theta) (i .K n m) (lane i (n - 1) m) (lane i (n - 2) m)
-  taken n m z l = lane-next i n m z ∙ rw (le-ltb n (4 * (m / 4)) (omega arith)) (stepped-below n m l (lane i (n - 1) m) (lane i (n - 2) m))
+  taken n m z l = lane-next i n m z ∙ rw (le-ltb n (4 * (m / 4) + 1) (omega arith)) (stepped-below n m l (lane i (n - 1) m) (lane i (n - 2) m))
 
   at-last : (n m : ℕ) → n ≤ N-MAX → m ≡ n → SameP (lane i n m) (legendre rounded i n m)
   at-last n m M e = rw e (by-path (above n n (omega arith) M) (start-is n))
@@ -218,24 +218,17 @@ module _ (i : Input Float) (w : Plain i) where
 
   -- ---- the terms and the sums
   module _ (n : ℕ) (M : n ≤ N-MAX) where
-    held-lane : (m : ℕ) → m ≤ n → SameP (cond (ltb m N-MAX) (lane i n m) (start i m)) (legendre rounded i n m)
-    held-lane m l =
-        ⊎-elim
-        (λ (e : m ≡ N-MAX). (let g : m ≡ n = omega arith in rw (le-ltb m N-MAX (omega arith)) (by-path (same, same) (start-is m ∙ ap (λ (z : ℕ). legendre rounded i z m) g))))
-        (λ h. rw (lt-ltb m N-MAX (omega arith)) (below n m M l))
-        (same-or m N-MAX)
-
     x-same : (m : ℕ) → m ≤ n → Same (laneTerms i n m .x) (x-term rounded i n m)
     unfolding termOf gc-hs dpsn rounded
-    x-same m l = mul-same same (mul-same same (held-lane m l .1))
+    x-same m l = mul-same same (mul-same same (below n m M l .1))
 
     y-same : (m : ℕ) → m ≤ n → Same (laneTerms i n m .y) (y-term rounded i n m)
     unfolding termOf gs-hc psn rounded
-    y-same m l = mul-same same (mul-same same (held-lane m l .0))
+    y-same m l = mul-same same (mul-same same (below n m M l .0))
 
     z-same : (m : ℕ) → m ≤ n → Same (laneTerms i n m .z) (z-term rounded i n m)
     unfolding termOf gc-hs psn rounded
-    z-same m l = mul-same same (mul-same same (held-lane m l .0))
+    z-same m l = mul-same same (mul-same same (below n m M l .0))
 
     pub lane-sums : laneSums i n ≡ rowSums i n
     unfolding x-row y-row z-row rounded

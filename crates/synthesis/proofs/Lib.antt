@@ -3,7 +3,7 @@ pub mod Demand
 pub mod PlaceSizes
 pub mod Filled
 pub mod RowsHold
-pub mod FactorsHold
+pub mod TermsHold
 pub mod GeneralSum
 pub mod PoleSum
 pub mod NumberChecks

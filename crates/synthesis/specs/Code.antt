@@ -5,12 +5,11 @@ use Prim.Native.Nat.{ℕ, zero, suc, _+_, _*_, _-_, _/_, _<_, _≤_}
 use mathlib.Core.Bool.{cond}
 use lib.Dec.{eqb, ltb}
 use lib.ListN.{getD, set, length}
-use lib.Ieee.{Float, nan, binary32, ofBits}
-use Rattle.tables.specs.Degree.{M-LEN, N-COEFF, N-MAX, place}
+use lib.Ieee.{Float, nan, binary32, mul, ofBits}
+use Rattle.tables.specs.Degree.{M-LEN, N-LEGENDRE, N-MAX, place}
 use Rattle.tables.specs.Rule.{kOf}
-use Rattle.tables.specs.Division.{kDivided}
+use Rattle.tables.specs.Division.{kDivisor, kOver}
 use Rattle.synthesis.specs.declared.Xyz.{Xyz}
-use Rattle.synthesis.specs.declared.rows.Four.{Four}
 use Rattle.synthesis.specs.declared.rows.PDp.{PDp}
 use Rattle.synthesis.specs.declared.rows.Places.{Places}
 use Rattle.synthesis.specs.declared.angles.Angles.{Angles}
@@ -29,16 +28,20 @@ pdp a = record { p = a .fst; dp = a .snd }
 abbrev pub qp : PDp → Pair Float
 qp r = pair (r .p) (r .dp)
 
--- row k of three, at order m
+-- P and its derivative at order m of two lists
+abbrev pub pairAt : List Float → List Float → ℕ → PDp
+pairAt p d m = record { p = getD p m nan; dp = getD d m nan }
+
+-- row k of three, at column j
 abbrev pub cell : List (List Float) → ℕ → ℕ → Float
-cell p k m = getD (getD p k []) m nan
+cell t k j = getD (getD t k []) j nan
 
 abbrev pub cells : List (List Float) → List (List Float) → ℕ → ℕ → Pair Float
 cells p d k m = pair (cell p k m) (cell d k m)
 
--- row k with v at order m
+-- row k with v at column j
 abbrev pub put : List (List Float) → ℕ → ℕ → Float → List (List Float)
-put p k m v = set p k (set (getD p k []) m v)
+put t k j v = set t k (set (getD t k []) j v)
 
 -- row k with four values from order m on
 abbrev pub put4 : List (List Float) → ℕ → ℕ → Float → Float → Float → Float → List (List Float)
@@ -67,10 +70,6 @@ cosAt sin-lambda cos-lambda m = angle rounded sin-lambda cos-lambda m .snd
 unfoldable pub anglesOf : Float → Float → Angles
 anglesOf sin-lambda cos-lambda = record { sin = first (sinAt sin-lambda cos-lambda) M-LEN; cos = first (cosAt sin-lambda cos-lambda) M-LEN }
 
--- a list of coefficients at the date
-unfoldable pub atDate : List Float → List Float → Float → List Float
-atDate main secular t = first (λ k. coefficient rounded (getD main k nan) (getD secular k nan) t) N-COEFF
-
 -- ---- the lanes of the general path, one for each order
 -- P(m, m) and its derivative, where lane m starts
 unfoldable pub startAt : Float → Float → ℕ → Pair Float
@@ -91,27 +90,30 @@ weight below then n m = cond (ltb m n) below then
 unfoldable pub laneStep : Input Float → ℕ → ℕ → Pair Float → Pair Float → Pair Float
 laneStep i n m q r = lowered (weight (i .cos-theta) (lit 1) n m) (weight (i .sin-theta) (lit 0) n m) (i .K n m) q r
 
--- what lane m holds in degree n. Its four lanes are taken from the degree on that the first of them has
+-- what lane m holds in degree n. Its four lanes take their first step in the degree after the first of them
 unfoldable pub lane : Input Float → ℕ → ℕ → Pair Float
 lane i zero m = start i m
-lane i (suc zero) m = cond (ltb 1 (4 * (m / 4))) (start i m) (laneStep i 1 m (start i m) (start i m))
-lane i (suc (suc n)) m = cond (ltb (suc (suc n)) (4 * (m / 4))) (start i m) (laneStep i (suc (suc n)) m (lane i (suc n) m) (lane i n m))
+lane i (suc zero) m = cond (ltb 1 (4 * (m / 4) + 1)) (start i m) (laneStep i 1 m (start i m) (start i m))
+lane i (suc (suc n)) m = cond (ltb (suc (suc n)) (4 * (m / 4) + 1)) (start i m) (laneStep i (suc (suc n)) m (lane i (suc n) m) (lane i n m))
 
 -- the places of the list of weights: those of degree n begin at N-MAX - n
 abbrev pub W-LEN : ℕ
 W-LEN = 2 * N-MAX
 
--- lane m after a step, ks the factors of the degree and w the lane's place in the lists of weights
-abbrev pub loweredAt : ℕ → ℕ → List Float → List Float → List Float → List (List Float) → List (List Float) → Places → PDp
-loweredAt m w ks cw sw p d q = pdp (lowered (getD cw w nan) (getD sw w nan) (getD ks m nan) (cells p d (q .prev1) m) (cells p d (q .prev2) m))
+-- a lane after a step, w its place in the lists of weights, a of the degree before and b of that before it
+abbrev pub loweredAt : ℕ → Float → List Float → List Float → PDp → PDp → PDp
+loweredAt w k cw sw a b = pdp (lowered (getD cw w nan) (getD sw w nan) k (qp a) (qp b))
 
--- the factor of the degree after n in lane m, os the orders
-abbrev pub nextK : List Float → ℕ → ℕ → Float
-nextK os n m = kDivided (getD os n nan) (getD os m nan)
+-- the square of n, and the divisor of K in the degree after n
+unfoldable pub squareAt : ℕ → Float
+squareAt n = mul binary32 (lit n) (lit n)
 
--- such factors in the lanes m to m + 3
-abbrev pub putK : List Float → ℕ → ℕ → List Float → List Float
-putK ks n m os = set (set (set (set ks m (nextK os n m)) (m + 1) (nextK os n (m + 1))) (m + 2) (nextK os n (m + 2))) (m + 3) (nextK os n (m + 3))
+unfoldable pub divisorAt : ℕ → Float
+divisorAt n = kDivisor (squareAt n)
+
+-- the factor of the degree after n in lane m, from the orders, their squares and the divisors
+abbrev pub nextK : List Float → List Float → List Float → ℕ → ℕ → Float
+nextK os sq ds n m = kOver (getD sq n nan) (getD os m nan) (getD ds n nan)
 
 -- one order's terms of the three sums, o the order
 unfoldable pub termOf : Float → Float → PDp → Float → Float → Float → Float → Xyz
@@ -123,27 +125,25 @@ termOf o s r g h sin cos =
       z = rounded .times (gc rounded g h u) (ps rounded s (qp r));
     }
 
--- the same, of order m at place k of the tables
-abbrev pub termAt : ℕ → ℕ → PDp → List Float → List Float → List Float → List Float → List Float → List Float → Xyz
-termAt m k r ss gt ht os sin cos = termOf (getD os m nan) (getD ss k nan) r (getD gt (k - 1) nan) (getD ht (k - 1) nan) (getD sin m nan) (getD cos m nan)
+-- the coefficients at place k of the lists, at the date
+abbrev pub ghAt : List Float → List Float → List Float → List Float → Float → ℕ → Gh
+ghAt g h g-dot h-dot t k = record { g = coefficient rounded (getD g k nan) (getD g-dot k nan) t; h = coefficient rounded (getD h k nan) (getD h-dot k nan) t }
 
--- the three rows of terms: read and stored at order m
+-- the same, of order m at place k of the tables
+abbrev pub termAt : ℕ → ℕ → PDp → List Float → List Float → List Float → List Float → List Float → Float → List Float → List Float → List Float → Xyz
+termAt m k r ss g h g-dot h-dot t os sin cos =
+    termOf (getD os m nan) (getD ss k nan) r (ghAt g h g-dot h-dot t (k - 1) .g) (ghAt g h g-dot h-dot t (k - 1) .h) (getD sin m nan) (getD cos m nan)
+
+-- the three rows of terms: read and stored at place k
 abbrev pub cellXyz : List (List Float) → ℕ → Xyz
-cellXyz t m = record { x = cell t 0 m; y = cell t 1 m; z = cell t 2 m }
+cellXyz t k = record { x = cell t 0 k; y = cell t 1 k; z = cell t 2 k }
 
 unfoldable pub putTerm : List (List Float) → ℕ → Xyz → List (List Float)
-putTerm t m v = put (put (put t 0 m (v .x)) 1 m (v .y)) 2 m (v .z)
+putTerm t k v = put (put (put t 0 k (v .x)) 1 k (v .y)) 2 k (v .z)
 
--- the terms of the orders m and m + 1 stored, k the place of m in the tables; then of m to m + 3
-abbrev pub put2Terms : List (List Float) → ℕ → ℕ → PDp → PDp → List Float → List Float → List Float → List Float → List Float → List Float → List (List Float)
-put2Terms t m k a b ss gt ht os sin cos = putTerm (putTerm t m (termAt m k a ss gt ht os sin cos)) (m + 1) (termAt (m + 1) (k + 1) b ss gt ht os sin cos)
-
-abbrev pub put4Terms : List (List Float) → ℕ → ℕ → Four → List Float → List Float → List Float → List Float → List Float → List Float → List (List Float)
-put4Terms t m k r ss gt ht os sin cos =
-    putTerm
-    (putTerm (put2Terms t m k (r .r0) (r .r1) ss gt ht os sin cos) (m + 2) (termAt (m + 2) (k + 2) (r .r2) ss gt ht os sin cos))
-    (m + 3)
-    (termAt (m + 3) (k + 3) (r .r3) ss gt ht os sin cos)
+-- four terms stored, from place k on
+abbrev pub put4Terms : List (List Float) → ℕ → Xyz → Xyz → Xyz → Xyz → List (List Float)
+put4Terms t k a b c d = putTerm (putTerm (putTerm (putTerm t k a) (k + 1) b) (k + 2) c) (k + 3) d
 
 -- the first k terms, added up from 0; i is not read
 abbrev pub totals : Input Float → (ℕ → Xyz) → ℕ → Xyz
@@ -158,10 +158,9 @@ addDegree t n power a =
       z = rounded .plus (t .z) (downward rounded n power (a .z));
     }
 
--- the terms of degree n by order, from the lanes; order N-MAX has none and stays at its start value
+-- the terms of degree n by order, from the lanes
 abbrev pub laneTerms : Input Float → ℕ → ℕ → Xyz
-laneTerms i n m =
-    termOf (lit m) (i .S n m) (pdp (cond (ltb m N-MAX) (lane i n m) (start i m))) (i .g n m) (i .h n m) (sinAt (i .sin-lambda) (i .cos-lambda) m) (cosAt (i .sin-lambda) (i .cos-lambda) m)
+laneTerms i n m = termOf (lit m) (i .S n m) (pdp (lane i n m)) (i .g n m) (i .h n m) (sinAt (i .sin-lambda) (i .cos-lambda) m) (cosAt (i .sin-lambda) (i .cos-lambda) m)
 
 abbrev pub laneSums : Input Float → ℕ → Xyz
 laneSums i n = totals i (laneTerms i n) (n + 1)
@@ -176,10 +175,10 @@ abbrev pub general : Input Float → ℕ → Xyz
 general i N = record { x = x-sum rounded i N; y = y-sum rounded i N; z = z-sum rounded i N }
 
 -- ---- what the loops keep
--- three rows of thirteen
-pub record Sized (p : List (List Float)) : Type 0 where
-  pub rows : length p ≡ 3
-  pub cells : (k : ℕ) → k < 3 → length (getD p k []) ≡ M-LEN
+-- three rows of w columns
+pub record Sized (w : ℕ) (t : List (List Float)) : Type 0 where
+  pub rows : length t ≡ 3
+  pub cells : (k : ℕ) → k < 3 → length (getD t k []) ≡ w
 
 -- three rows, all different
 pub record Apart (q : Places) : Type 0 where
@@ -190,41 +189,41 @@ pub record Apart (q : Places) : Type 0 where
   pub prev2-cur : q .prev2 ≡ q .cur → ⊥
   pub prev1-prev2 : q .prev1 ≡ q .prev2 → ⊥
 
--- the lanes in degree n, those below j done; the others hold what they did three degrees before
-pub record Lanes (i : Input Float) (n j : ℕ) (p d : List (List Float)) (q : Places) : Type 0 where
-  pub p-sized : Sized p
-  pub d-sized : Sized d
-  pub apart : Apart q
-  pub prev1 : (m : ℕ) → m < N-MAX → cells p d (q .prev1) m ≡ lane i (n - 1) m
-  pub prev2 : (m : ℕ) → m < N-MAX → cells p d (q .prev2) m ≡ lane i (n - 2) m
-  pub done : (m : ℕ) → m < N-MAX → m < j → cells p d (q .cur) m ≡ lane i n m
-  pub rest : (m : ℕ) → m < N-MAX → j ≤ m → cells p d (q .cur) m ≡ lane i (n - 3) m
+-- the lanes below m are at their start in all rows
+pub record Fresh (i : Input Float) (m : ℕ) (p d : List (List Float)) : Type 0 where
+  pub p-sized : Sized M-LEN p
+  pub d-sized : Sized M-LEN d
+  pub starts : (k l : ℕ) → k < 3 → l < m → cells p d k l ≡ start i l
 
--- the factors in degree n: those of the next degree in the lanes below j
-pub record Factors (i : Input Float) (n j : ℕ) (ks : List Float) : Type 0 where
-  pub long : length ks ≡ N-MAX
-  pub done : (m : ℕ) → m < N-MAX → m < j → getD ks m nan ≡ i .K (n + 1) m
-  pub rest : (m : ℕ) → m < N-MAX → j ≤ m → getD ks m nan ≡ i .K n m
+-- the terms of the orders from m on are stored
+pub record Above (i : Input Float) (m : ℕ) (t : List (List Float)) : Type 0 where
+  pub sized : Sized N-LEGENDRE t
+  pub terms-are : (d l : ℕ) → d ≤ N-MAX → m ≤ l → l ≤ d → cellXyz t (place d l) ≡ laneTerms i d l
 
--- the lanes, and the terms of the orders below j in the rows t
-pub record Row (i : Input Float) (n j : ℕ) (p d : List (List Float)) (q : Places) (t : List (List Float)) : Type 0 where
-  pub lanes : Lanes i n j p d q
-  pub t-sized : Sized t
-  pub terms-are : (m : ℕ) → m < j → m ≤ n → cellXyz t m ≡ laneTerms i n m
+-- the same, in the degrees above m
+pub record Filled (i : Input Float) (m : ℕ) (t : List (List Float)) : Type 0 where
+  pub sized : Sized N-LEGENDRE t
+  pub terms-are : (d l : ℕ) → m < d → d ≤ N-MAX → m ≤ l → l ≤ d → cellXyz t (place d l) ≡ laneTerms i d l
 
 -- the sums of degree n over its orders
 abbrev pub rowSums : Input Float → ℕ → Xyz
 rowSums i n = record { x = x-row rounded i n; y = y-row rounded i n; z = z-row rounded i n }
 
--- what the code reads at each order is what the sums read: the factors K, Schmidt's table, the coefficients at the date, the orders, the angles
-pub record Given (i : Input Float) (ss gt ht os sin cos : List Float) : Type 0 where
+-- what the code reads at each order is what the sums read: the factors K, Schmidt's table, the coefficients at the date, the orders, what K is made of, the angles
+pub record Given (i : Input Float) (ss g h g-dot h-dot : List Float) (t : Float) (os sq ds sin cos : List Float) : Type 0 where
   pub K : i .K ≡ kOf
   pub S : (n m : ℕ) → n < M-LEN → m ≤ n → getD ss (place n m) nan ≡ i .S n m
-  pub g : (n m : ℕ) → 0 < n → n < M-LEN → m ≤ n → getD gt (place n m - 1) nan ≡ i .g n m
-  pub h : (n m : ℕ) → 0 < n → n < M-LEN → m ≤ n → getD ht (place n m - 1) nan ≡ i .h n m
+  pub g-is : (n m : ℕ) → 0 < n → n < M-LEN → m ≤ n → ghAt g h g-dot h-dot t (place n m - 1) .g ≡ i .g n m
+  pub h-is : (n m : ℕ) → 0 < n → n < M-LEN → m ≤ n → ghAt g h g-dot h-dot t (place n m - 1) .h ≡ i .h n m
   pub order : (m : ℕ) → m < M-LEN → getD os m nan ≡ lit m
+  pub square : (n : ℕ) → n < M-LEN → getD sq n nan ≡ squareAt n
+  pub divisor : (n : ℕ) → n < M-LEN → getD ds n nan ≡ divisorAt n
   pub sin-is : (m : ℕ) → m < M-LEN → getD sin m nan ≡ angle rounded (i .sin-lambda) (i .cos-lambda) m .fst
   pub cos-is : (m : ℕ) → m < M-LEN → getD cos m nan ≡ angle rounded (i .sin-lambda) (i .cos-lambda) m .snd
+
+-- the lists of start values
+abbrev pub Started : Input Float → List Float → List Float → Type 0
+Started i p d = (m : ℕ) → m < M-LEN → pairAt p d m ≡ pdp (start i m)
 
 -- the two lists of weights: before P and its derivative, before P in the derivative
 pub record Weighed (i : Input Float) (cw sw : List Float) : Type 0 where
@@ -244,10 +243,6 @@ nextRow n k0 k1 c s a b =
       r1 = pdp (step rounded c s k1 n 1 (qp (a .r0)) (qp (a .r1)) (qp (b .r1)));
       q = nextQ n k1 c (a .q) (b .q);
     }
-
--- the coefficients at place k of the lists, at the date
-abbrev pub ghAt : List Float → List Float → List Float → List Float → Float → ℕ → Gh
-ghAt g h g-dot h-dot t k = record { g = coefficient rounded (getD g k nan) (getD g-dot k nan) t; h = coefficient rounded (getD h k nan) (getD h-dot k nan) t }
 
 -- a degree's parts, of the terms of order 0, whose sine is 0 and cosine 1, and of those of order 1; east of order 1 by Q
 unfoldable pub poleParts : PoleRow → Gh → Gh → Float → Float → SinCos → Float → Xyz

@@ -1,12 +1,10 @@
 // Coefficients at a date.
-use tables::N_COEFF;
 ghost use mathlib.Core.Path.{_≡_};
 ghost use Prim.Native.Nat.{_<_};
 ghost use lib.ListN.{length};
-ghost use Rattle.tables.specs.Degree.{N-COEFF};
 ghost use Rattle.sums.specs.Arithmetic.{rounded};
 ghost use Rattle.sums.specs.Recurrence.{coefficient};
-ghost use Rattle.synthesis.specs.Code.{atDate, ghAt};
+ghost use Rattle.synthesis.specs.Code.{ghAt};
 
 // Two coefficients of one degree and order.
 pub struct Gh {
@@ -35,15 +33,4 @@ pub fn coeffs_at(
     let gt = coeff_at_t(g[i], g_dot[i], time_delta);
     let ht = coeff_at_t(h[i], h_dot[i], time_delta);
     Gh { g: gt, h: ht }
-}
-
-// A whole list in one pass, so that it runs by lanes. It is filled in place: a list that is handed
-// back is copied.
-pub fn put_at_date(main: &[f32], secular: &[f32], time_delta: f32, r: &mut [f32; N_COEFF])
-    requires { ⌜ (length (now main) ≡ N-COEFF) × (length (now secular) ≡ N-COEFF) × (length (now r) ≡ N-COEFF) ⌝ }
-    ensures { λ _. ⌜ now (r .exit) ≡ atDate (now (main .entry)) (now (secular .entry)) «time_delta» ⌝ }
-{
-    for i in 0..N_COEFF {
-        r[i] = coeff_at_t(main[i], secular[i], time_delta);
-    }
 }

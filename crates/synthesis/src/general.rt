@@ -1,243 +1,201 @@
 // The general path: all orders, Y' not yet divided by sin θ.
 use crate::M_LEN;
 use crate::Xyz;
-use crate::angles::SinCos;
 use crate::angles::sin_cos_m_lambda;
-use crate::date::Gh;
-use crate::date::put_at_date;
-use crate::lanes::Starts;
+use crate::lanes::FourK;
 use crate::lanes::W_LEN;
 use crate::lanes::below_then;
-use crate::lanes::put_next_k;
+use crate::lanes::divisors;
+use crate::lanes::lower_four;
+use crate::lanes::next_k;
+use crate::lanes::orders;
+use crate::lanes::squares;
 use crate::lanes::start_values;
-use crate::rows::Four;
 use crate::rows::PDp;
 use crate::rows::Places;
+use crate::rows::four_at;
 use crate::rows::legendre_index;
-use crate::rows::lower_four;
 use crate::rows::put_four;
 use crate::rows::rotate_row_indices;
-use tables::N_COEFF;
+use crate::terms::four_terms;
+use crate::terms::put_four_terms;
+use crate::terms::put_term;
+use crate::terms::term;
 use tables::N_LEGENDRE;
 use tables::N_MAX;
 ghost use mathlib.Core.Path.{_≡_};
 ghost use Prim.Native.Nat.{_+_, _*_, _/_, _<_, _≤_};
 ghost use lib.ListN.{length};
 ghost use lib.Ieee.{Float};
-ghost use Rattle.tables.specs.Degree.{N-MAX, M-LEN, N-COEFF, N-LEGENDRE};
+ghost use Rattle.tables.specs.Degree.{N-MAX, M-LEN, N-COEFF, N-LEGENDRE, place};
 ghost use Rattle.sums.specs.Arithmetic.{rounded};
 ghost use Rattle.synthesis.specs.Sum.{SumAccepted, inputs, lent};
 ghost use Rattle.sums.specs.Recurrence.{Input, lit};
-ghost use Rattle.synthesis.specs.Code.{Factors, Given, Lanes, Row, Sized, Weighed, addDegree, cellXyz, first, general, laneSums, laneTotal, pdp, put2Terms, put4Terms, putTerm, start, startsOf, termAt, termOf, totals};
+ghost use Rattle.synthesis.specs.Code.{Above, Filled, Fresh, Given, Sized, Started, Weighed, addDegree, cellXyz, divisorAt, first, general, laneTotal, pairAt, putTerm, squareAt, termAt, totals};
 
-// The orders as f32. Read from a table, taken once a call: a conversion does not run by lanes.
-const ORDERS: [f32; M_LEN] = [
-    0.0,
-    1.0,
-    2.0,
-    3.0,
-    4.0,
-    5.0,
-    6.0,
-    7.0,
-    8.0,
-    9.0,
-    10.0,
-    11.0,
-    12.0,
-];
-
-pub fn orders() -> [f32; M_LEN]
-    ensures { λ r. ⌜ r ≡ first lit M-LEN ⌝ }
-{
-    ORDERS
-}
-
-// An order's terms of the three sums of its degree, s its Schmidt factor and r its P.
-pub fn term_of(order: f32, s: f32, r: PDp, w: Gh, u: SinCos) -> Xyz
-    ensures { λ v. ⌜ v ≡ termOf order s r (w .g) (w .h) (u .sin) (u .cos) ⌝ }
-{
-    let psn = s * r.p;
-    let dpsn = -s * r.dp;
-    let g_c_h_s = w.g * u.cos + w.h * u.sin;
-    let g_s_h_c = w.g * u.sin - w.h * u.cos;
-    Xyz {
-        x: g_c_h_s * dpsn,
-        y: order * g_s_h_c * psn,
-        z: g_c_h_s * psn,
-    }
-}
-
-// The same of order m, at place i of the tables.
-pub fn term(
-    m: usize,
-    i: usize,
-    r: PDp,
-    ss: &[f32; N_LEGENDRE],
-    gt: &[f32; N_COEFF],
-    ht: &[f32; N_COEFF],
-    os: &[f32; M_LEN],
-    sin: &[f32; M_LEN],
-    cos: &[f32; M_LEN],
-) -> Xyz
-    requires { ⌜ (m < M-LEN) × (0 < i) × (i < N-LEGENDRE) ⌝ }
-    ensures { λ v. ⌜ v ≡ termAt m i r (now (ss .entry)) (now (gt .entry)) (now (ht .entry)) (now (os .entry)) (now (sin .entry)) (now (cos .entry)) ⌝ }
-{
-    let w = Gh {
-        g: gt[i - 1],
-        h: ht[i - 1],
-    };
-    let u = SinCos {
-        sin: sin[m],
-        cos: cos[m],
-    };
-    term_of(os[m], ss[i], r, w, u)
-}
-
-// The terms of order m, stored: x, y and z in a row each.
-pub fn put_term(m: usize, v: Xyz, t: &mut [[f32; M_LEN]; 3])
-    requires { ⌜ m < M-LEN ⌝ }
-    ensures { λ _. ⌜ now (t .exit) ≡ putTerm (now (t .entry)) m v ⌝ }
-{
-    let x = v.x;
-    let y = v.y;
-    let z = v.z;
-    t[0][m] = x;
-    t[1][m] = y;
-    t[2][m] = z;
-}
-
-// The terms of the orders m and m + 1. They go through the rows t, since only stores run by lanes:
-// the sums add them one after another.
-pub fn put_two_terms(
-    m: usize,
-    i: usize,
-    r0: PDp,
-    r1: PDp,
-    ss: &[f32; N_LEGENDRE],
-    gt: &[f32; N_COEFF],
-    ht: &[f32; N_COEFF],
-    os: &[f32; M_LEN],
-    sin: &[f32; M_LEN],
-    cos: &[f32; M_LEN],
-    t: &mut [[f32; M_LEN]; 3],
-)
-    requires { ⌜ (m + 1 < M-LEN) × (0 < i) × (i + 1 < N-LEGENDRE) ⌝ }
-    ensures { λ _. ⌜ now (t .exit) ≡ put2Terms (now (t .entry)) m i r0 r1 (now (ss .entry)) (now (gt .entry)) (now (ht .entry)) (now (os .entry)) (now (sin .entry)) (now (cos .entry)) ⌝ }
-{
-    let v0 = term(m, i, r0, ss, gt, ht, os, sin, cos);
-    let v1 = term(m + 1, i + 1, r1, ss, gt, ht, os, sin, cos);
-    put_term(m, v0, t);
-    put_term(m + 1, v1, t);
-}
-
-// The terms of the orders m to m + 3.
-pub fn put_four_terms(
-    m: usize,
-    i: usize,
-    r: Four,
-    ss: &[f32; N_LEGENDRE],
-    gt: &[f32; N_COEFF],
-    ht: &[f32; N_COEFF],
-    os: &[f32; M_LEN],
-    sin: &[f32; M_LEN],
-    cos: &[f32; M_LEN],
-    t: &mut [[f32; M_LEN]; 3],
-)
-    requires { ⌜ (m + 3 < M-LEN) × (0 < i) × (i + 3 < N-LEGENDRE) ⌝ }
-    ensures { λ _. ⌜ now (t .exit) ≡ put4Terms (now (t .entry)) m i r (now (ss .entry)) (now (gt .entry)) (now (ht .entry)) (now (os .entry)) (now (sin .entry)) (now (cos .entry)) ⌝ }
-{
-    put_two_terms(m, i, r.r0, r.r1, ss, gt, ht, os, sin, cos, t);
-    put_two_terms(m + 2, i + 2, r.r2, r.r3, ss, gt, ht, os, sin, cos, t);
-}
-
-// The lanes m to m + 3 in degree n, and their factors for the next. What stands in a lane above the
-// degree is not added up.
+// The terms of the orders m to m + 3 in the degrees above m. Their four lanes go from degree to degree, with
+// their factors, which are 0 in degree m + 1: those of degree n - 2 are read from their row, those of
+// degree n - 1 are still at hand, so that no load waits for its store. What stands in a lane above its
+// degree is stored at a place of the next, and stored over later.
 pub fn four_orders(
-    n: usize,
     m: usize,
-    ks: &mut [f32; N_MAX],
     cw: &[f32; W_LEN],
     sw: &[f32; W_LEN],
     ss: &[f32; N_LEGENDRE],
-    gt: &[f32; N_COEFF],
-    ht: &[f32; N_COEFF],
+    g: &[f32],
+    h: &[f32],
+    g_dot: &[f32],
+    h_dot: &[f32],
+    time_delta: f32,
     os: &[f32; M_LEN],
+    sq: &[f32; M_LEN],
+    ds: &[f32; M_LEN],
     sin: &[f32; M_LEN],
     cos: &[f32; M_LEN],
     p: &mut [[f32; M_LEN]; 3],
     dp: &mut [[f32; M_LEN]; 3],
-    q: Places,
-    t: &mut [[f32; M_LEN]; 3],
+    t: &mut [[f32; N_LEGENDRE]; 3],
 )
-    requires { ⌜ (0 < n) × (n < M-LEN) × (m ≤ n) × (m + 3 < N-MAX) × (4 * (m / 4) ≡ m) × (q .prev1 < 3) × (q .prev2 < 3) × (q .cur < 3) ⌝ }
-    ensures { λ _. ⌜ ((i : Input Float) → Given i (now (ss .entry)) (now (gt .entry)) (now (ht .entry)) (now (os .entry)) (now (sin .entry)) (now (cos .entry))
-        → Weighed i (now (cw .entry)) (now (sw .entry)) → Factors i n m (now (ks .entry)) → Row i n m (now (p .entry)) (now (dp .entry)) q (now (t .entry))
-        → Factors i n (m + 4) (now (ks .exit)) × Row i n (m + 4) (now (p .exit)) (now (dp .exit)) q (now (t .exit))) ⌝ }
+    requires { ⌜ (length (now g) ≡ N-COEFF) × (length (now h) ≡ N-COEFF) × (length (now «g_dot») ≡ N-COEFF) × (length (now «h_dot») ≡ N-COEFF) ⌝ }
+    requires { ⌜ (m + 3 < N-MAX) × (4 * (m / 4) ≡ m) ⌝ }
+    ensures { λ _. ⌜ ((i : Input Float) → Given i (now (ss .entry)) (now (g .entry)) (now (h .entry)) (now («g_dot» .entry)) (now («h_dot» .entry)) «time_delta» (now (os .entry)) (now (sq .entry)) (now (ds .entry)) (now (sin .entry)) (now (cos .entry))
+        → Weighed i (now (cw .entry)) (now (sw .entry)) → Fresh i (m + 4) (now (p .entry)) (now (dp .entry))
+        → Above i (m + 4) (now (t .entry)) → Fresh i m (now (p .exit)) (now (dp .exit)) × Filled i m (now (t .exit))) ⌝ }
 {
-    let i = legendre_index(n, m);
-    let cur = q.cur;
-    let r = lower_four(m, m + N_MAX - n, ks, cw, sw, p, dp, q);
-    put_four(m, r, p, dp, cur);
-    put_next_k(n, m, os, ks);
-    put_four_terms(m, i, r, ss, gt, ht, os, sin, cos, t);
+    let mut q = Places {
+        prev2: 0,
+        prev1: 1,
+        cur: 2,
+    };
+    let mut r = four_at(m, 1, p, dp);
+    let mut k = FourK {
+        k0: 0.0,
+        k1: 0.0,
+        k2: 0.0,
+        k3: 0.0,
+    };
+    for n in m + 1..M_LEN {
+        let i = legendre_index(n, m);
+        let b = four_at(m, q.prev2, p, dp);
+        r = lower_four(k, m + N_MAX - n, cw, sw, r, b);
+        put_four(m, r, p, dp, q.cur);
+        k = next_k(n, m, os, sq, ds);
+        let v = four_terms(m, i, r, ss, g, h, g_dot, h_dot, time_delta, os, sin, cos);
+        put_four_terms(i, v, t);
+        q = rotate_row_indices(q);
+    }
 }
 
-// The terms of the orders below `count`, added up in that order.
-pub fn add_terms(count: usize, t: &[[f32; M_LEN]; 3]) -> Xyz
-    requires { ⌜ count ≤ M-LEN ⌝ }
-    ensures { λ r. ⌜ ((i : Input Float) → r ≡ totals i (cellXyz (now (t .entry))) count) ⌝ }
+// The term of order m in degree m: P is where the lane starts.
+pub fn put_corner(
+    m: usize,
+    ss: &[f32; N_LEGENDRE],
+    g: &[f32],
+    h: &[f32],
+    g_dot: &[f32],
+    h_dot: &[f32],
+    time_delta: f32,
+    os: &[f32; M_LEN],
+    sin: &[f32; M_LEN],
+    cos: &[f32; M_LEN],
+    start_p: &[f32; M_LEN],
+    start_dp: &[f32; M_LEN],
+    t: &mut [[f32; N_LEGENDRE]; 3],
+)
+    requires { ⌜ (length (now g) ≡ N-COEFF) × (length (now h) ≡ N-COEFF) × (length (now «g_dot») ≡ N-COEFF) × (length (now «h_dot») ≡ N-COEFF) ⌝ }
+    requires { ⌜ (0 < m) × (m < M-LEN) ⌝ }
+    ensures { λ _. ⌜ now (t .exit) ≡ putTerm (now (t .entry)) (place m m) (termAt m (place m m) (pairAt (now («start_p» .entry)) (now («start_dp» .entry)) m) (now (ss .entry)) (now (g .entry)) (now (h .entry)) (now («g_dot» .entry)) (now («h_dot» .entry)) «time_delta» (now (os .entry)) (now (sin .entry)) (now (cos .entry))) ⌝ }
+{
+    let i = legendre_index(m, m);
+    let r = PDp {
+        p: start_p[m],
+        dp: start_dp[m],
+    };
+    let v = term(m, i, r, ss, g, h, g_dot, h_dot, time_delta, os, sin, cos);
+    put_term(i, v, t);
+}
+
+// The terms of all degrees and orders, from the last four orders to the first: what they leave over is
+// then at places that are still to be stored.
+pub fn put_all_terms(
+    cw: &[f32; W_LEN],
+    sw: &[f32; W_LEN],
+    ss: &[f32; N_LEGENDRE],
+    g: &[f32],
+    h: &[f32],
+    g_dot: &[f32],
+    h_dot: &[f32],
+    time_delta: f32,
+    os: &[f32; M_LEN],
+    sq: &[f32; M_LEN],
+    ds: &[f32; M_LEN],
+    sin: &[f32; M_LEN],
+    cos: &[f32; M_LEN],
+    start_p: &[f32; M_LEN],
+    start_dp: &[f32; M_LEN],
+    p: &mut [[f32; M_LEN]; 3],
+    dp: &mut [[f32; M_LEN]; 3],
+    t: &mut [[f32; N_LEGENDRE]; 3],
+)
+    requires { ⌜ (length (now g) ≡ N-COEFF) × (length (now h) ≡ N-COEFF) × (length (now «g_dot») ≡ N-COEFF) × (length (now «h_dot») ≡ N-COEFF) ⌝ }
+    ensures { λ _. ⌜ ((i : Input Float) → Given i (now (ss .entry)) (now (g .entry)) (now (h .entry)) (now («g_dot» .entry)) (now («h_dot» .entry)) «time_delta» (now (os .entry)) (now (sq .entry)) (now (ds .entry)) (now (sin .entry)) (now (cos .entry))
+        → Weighed i (now (cw .entry)) (now (sw .entry)) → Started i (now («start_p» .entry)) (now («start_dp» .entry))
+        → Fresh i N-MAX (now (p .entry)) (now (dp .entry)) → Sized N-LEGENDRE (now (t .entry)) → Filled i 0 (now (t .exit))) ⌝ }
+{
+    let mut m = N_MAX;
+    while 0 < m {
+        put_corner(
+            m,
+            ss,
+            g,
+            h,
+            g_dot,
+            h_dot,
+            time_delta,
+            os,
+            sin,
+            cos,
+            start_p,
+            start_dp,
+            t,
+        );
+        m -= 4;
+        four_orders(
+            m,
+            cw,
+            sw,
+            ss,
+            g,
+            h,
+            g_dot,
+            h_dot,
+            time_delta,
+            os,
+            sq,
+            ds,
+            sin,
+            cos,
+            p,
+            dp,
+            t,
+        );
+    }
+}
+
+// `count` terms from place i on, added up in that order.
+pub fn add_terms(i: usize, count: usize, t: &[[f32; N_LEGENDRE]; 3]) -> Xyz
+    requires { ⌜ i + count ≤ N-LEGENDRE ⌝ }
+    ensures { λ r. ⌜ ((j : Input Float) → r ≡ totals j (λ m. cellXyz (now (t .entry)) (i + m)) count) ⌝ }
 {
     let mut x = 0.0f32;
     let mut y = 0.0f32;
     let mut z = 0.0f32;
     for m in 0..count {
-        x = x + t[0][m];
-        y = y + t[1][m];
-        z = z + t[2][m];
+        x = x + t[0][i + m];
+        y = y + t[1][i + m];
+        z = z + t[2][i + m];
     }
     Xyz { x, y, z }
-}
-
-// The sums of degree n, its row filled from those of the two degrees before, with its factors, which
-// become those of the next. The last order of the last degree has no lane: its P is `last`. The terms
-// go through the rows t, which are the caller's: to make them anew takes time.
-pub fn degree(
-    n: usize,
-    ks: &mut [f32; N_MAX],
-    cw: &[f32; W_LEN],
-    sw: &[f32; W_LEN],
-    ss: &[f32; N_LEGENDRE],
-    gt: &[f32; N_COEFF],
-    ht: &[f32; N_COEFF],
-    os: &[f32; M_LEN],
-    sin: &[f32; M_LEN],
-    cos: &[f32; M_LEN],
-    p: &mut [[f32; M_LEN]; 3],
-    dp: &mut [[f32; M_LEN]; 3],
-    q: Places,
-    last: PDp,
-    t: &mut [[f32; M_LEN]; 3],
-) -> Xyz
-    requires { ⌜ (0 < n) × (n < M-LEN) × (q .prev1 < 3) × (q .prev2 < 3) × (q .cur < 3) ⌝ }
-    ensures { λ r. ⌜ ((i : Input Float) → Given i (now (ss .entry)) (now (gt .entry)) (now (ht .entry)) (now (os .entry)) (now (sin .entry)) (now (cos .entry))
-        → Weighed i (now (cw .entry)) (now (sw .entry)) → last ≡ pdp (start i N-MAX)
-        → Sized (now (t .entry)) → Factors i n 0 (now (ks .entry)) → Lanes i n 0 (now (p .entry)) (now (dp .entry)) q
-        → (r ≡ laneSums i n) × Sized (now (t .exit)) × Factors i n N-MAX (now (ks .exit)) × Lanes i n N-MAX (now (p .exit)) (now (dp .exit)) q) ⌝ }
-{
-    let mut m = 0usize;
-    while m <= n && m < N_MAX {
-        four_orders(n, m, ks, cw, sw, ss, gt, ht, os, sin, cos, p, dp, q, t);
-        m += 4;
-    }
-    if n == N_MAX {
-        put_term(
-            N_MAX,
-            term(N_MAX, N_LEGENDRE - 1, last, ss, gt, ht, os, sin, cos),
-            t,
-        );
-    }
-    add_terms(n + 1, t)
 }
 
 // One degree's part of the sums.
@@ -252,37 +210,11 @@ pub fn add_degree(t: Xyz, n: usize, a_over_r_n2: f32, a: Xyz) -> Xyz
     }
 }
 
-// The degrees one after another: three rows for P and three for its derivative, whose roles rotate.
-// The factors of degree 1 are 0.
-pub fn degrees(
-    ratio: f32,
-    cw: &[f32; W_LEN],
-    sw: &[f32; W_LEN],
-    ss: &[f32; N_LEGENDRE],
-    gt: &[f32; N_COEFF],
-    ht: &[f32; N_COEFF],
-    os: &[f32; M_LEN],
-    sin: &[f32; M_LEN],
-    cos: &[f32; M_LEN],
-    d: Starts,
-) -> Xyz
-    ensures { λ r. ⌜ ((i : Input Float) → ratio ≡ i .ratio → d ≡ startsOf (i .cos-theta) (i .sin-theta)
-        → Given i (now (ss .entry)) (now (gt .entry)) (now (ht .entry)) (now (os .entry)) (now (sin .entry)) (now (cos .entry))
-        → Weighed i (now (cw .entry)) (now (sw .entry)) → r ≡ laneTotal i N-MAX) ⌝ }
+// The degrees one after another. They come after all terms: the sums of one degree then need not wait
+// for those of another.
+pub fn add_degrees(ratio: f32, t: &[[f32; N_LEGENDRE]; 3]) -> Xyz
+    ensures { λ r. ⌜ ((i : Input Float) → ratio ≡ i .ratio → Filled i 0 (now (t .entry)) → r ≡ laneTotal i N-MAX) ⌝ }
 {
-    let last = PDp {
-        p: d.p[N_MAX],
-        dp: d.dp[N_MAX],
-    };
-    let mut p = [d.p, d.p, d.p];
-    let mut dp = [d.dp, d.dp, d.dp];
-    let mut ks = [0.0f32; N_MAX];
-    let mut t = [[0.0f32; M_LEN]; 3];
-    let mut q = Places {
-        prev2: 0,
-        prev1: 1,
-        cur: 2,
-    };
     let mut power = ratio * ratio * ratio;
     let mut tot = Xyz {
         x: 0.0,
@@ -290,26 +222,9 @@ pub fn degrees(
         z: 0.0,
     };
     for n in 1..M_LEN {
-        let acc = degree(
-            n,
-            &mut ks,
-            cw,
-            sw,
-            ss,
-            gt,
-            ht,
-            os,
-            sin,
-            cos,
-            &mut p,
-            &mut dp,
-            q,
-            last,
-            &mut t,
-        );
+        let acc = add_terms(legendre_index(n, 0), n + 1, t);
         tot = add_degree(tot, n, power, acc);
         power = power * ratio;
-        q = rotate_row_indices(q);
     }
     tot
 }
@@ -320,19 +235,50 @@ pub fn all_degrees(
     sin_theta: f32,
     ratio: f32,
     ss: &[f32; N_LEGENDRE],
-    gt: &[f32; N_COEFF],
-    ht: &[f32; N_COEFF],
+    g: &[f32],
+    h: &[f32],
+    g_dot: &[f32],
+    h_dot: &[f32],
+    time_delta: f32,
     sin: &[f32; M_LEN],
     cos: &[f32; M_LEN],
 ) -> Xyz
+    requires { ⌜ (length (now g) ≡ N-COEFF) × (length (now h) ≡ N-COEFF) × (length (now «g_dot») ≡ N-COEFF) × (length (now «h_dot») ≡ N-COEFF) ⌝ }
     ensures { λ r. ⌜ ((i : Input Float) → «cos_theta» ≡ i .cos-theta → «sin_theta» ≡ i .sin-theta → ratio ≡ i .ratio
-        → Given i (now (ss .entry)) (now (gt .entry)) (now (ht .entry)) (first lit M-LEN) (now (sin .entry)) (now (cos .entry)) → r ≡ laneTotal i N-MAX) ⌝ }
+        → Given i (now (ss .entry)) (now (g .entry)) (now (h .entry)) (now («g_dot» .entry)) (now («h_dot» .entry)) «time_delta» (first lit M-LEN) (first squareAt M-LEN) (first divisorAt M-LEN) (now (sin .entry)) (now (cos .entry)) → r ≡ laneTotal i N-MAX) ⌝ }
 {
     let os = orders();
+    let sq = squares();
+    let ds = divisors();
     let cw = below_then(cos_theta, 1.0);
     let sw = below_then(sin_theta, 0.0);
     let d = start_values(cos_theta, sin_theta);
-    degrees(ratio, &cw, &sw, ss, gt, ht, &os, sin, cos, d)
+    let start_p = d.p;
+    let start_dp = d.dp;
+    let mut p = [start_p, start_p, start_p];
+    let mut dp = [start_dp, start_dp, start_dp];
+    let mut t = [[0.0f32; N_LEGENDRE]; 3];
+    put_all_terms(
+        &cw,
+        &sw,
+        ss,
+        g,
+        h,
+        g_dot,
+        h_dot,
+        time_delta,
+        &os,
+        &sq,
+        &ds,
+        sin,
+        cos,
+        &start_p,
+        &start_dp,
+        &mut p,
+        &mut dp,
+        &mut t,
+    );
+    add_degrees(ratio, &t)
 }
 
 pub fn synthesize_xyz_prime(
@@ -353,11 +299,19 @@ pub fn synthesize_xyz_prime(
 {
     let a = sin_cos_m_lambda(sin_lambda, cos_lambda);
     let ss = tables::schmidt_table();
-    let mut gt = [0.0f32; N_COEFF];
-    let mut ht = [0.0f32; N_COEFF];
-    put_at_date(g, g_dot, time_delta, &mut gt);
-    put_at_date(h, h_dot, time_delta, &mut ht);
     let sin = a.sin;
     let cos = a.cos;
-    all_degrees(cos_theta, sin_theta, ratio, &ss, &gt, &ht, &sin, &cos)
+    all_degrees(
+        cos_theta,
+        sin_theta,
+        ratio,
+        &ss,
+        g,
+        h,
+        g_dot,
+        h_dot,
+        time_delta,
+        &sin,
+        &cos,
+    )
 }

@@ -2,6 +2,8 @@
 // A lane whose order is not below the degree keeps its start value, P(m, m): it is multiplied by 1
 // where the others are by cos θ, and by 0 where they are by sin θ; its k is 0.
 use crate::M_LEN;
+use crate::rows::PDp;
+use crate::rows::lower_p_dp;
 use tables::N_MAX;
 ghost use mathlib.Core.Path.{_≡_};
 ghost use mathlib.Core.Bool.{cond};
@@ -10,7 +12,8 @@ ghost use lib.Dec.{ltb};
 ghost use lib.ListN.{getD};
 ghost use lib.Ieee.{nan};
 ghost use Rattle.tables.specs.Degree.{M-LEN, N-MAX};
-ghost use Rattle.synthesis.specs.Code.{W-LEN, putK, startsOf};
+ghost use Rattle.sums.specs.Recurrence.{lit};
+ghost use Rattle.synthesis.specs.Code.{W-LEN, divisorAt, first, nextK, loweredAt, squareAt, startsOf};
 
 pub const W_LEN: usize = 2 * N_MAX;
 
@@ -46,19 +49,126 @@ pub fn below_then(below: f32, then: f32) -> [f32; W_LEN]
     r
 }
 
-// The factors of the degree after n for the lanes m to m + 3, in the place of those of degree n: one
-// degree ahead, so that no lane waits for a division. n and m are read as f32 from the orders.
-pub fn put_next_k(n: usize, m: usize, os: &[f32; M_LEN], ks: &mut [f32; N_MAX])
-    requires { ⌜ (n < M-LEN) × (m + 3 < N-MAX) ⌝ }
-    ensures { λ _. ⌜ now (ks .exit) ≡ putK (now (ks .entry)) n m (now (os .entry)) ⌝ }
+// P and its derivative in four lanes, side by side.
+pub struct Four {
+    pub r0: PDp,
+    pub r1: PDp,
+    pub r2: PDp,
+    pub r3: PDp,
+}
+
+// The factors of four lanes.
+pub struct FourK {
+    pub k0: f32,
+    pub k1: f32,
+    pub k2: f32,
+    pub k3: f32,
+}
+
+// The orders as f32. Read from a table, taken once a call: a conversion does not run by lanes.
+const ORDERS: [f32; M_LEN] = [
+    0.0,
+    1.0,
+    2.0,
+    3.0,
+    4.0,
+    5.0,
+    6.0,
+    7.0,
+    8.0,
+    9.0,
+    10.0,
+    11.0,
+    12.0,
+];
+
+// Their squares, and what K is divided by in the degree after each: K's numbers that all lanes share.
+const SQUARES: [f32; M_LEN] = [
+    0.0,
+    1.0,
+    4.0,
+    9.0,
+    16.0,
+    25.0,
+    36.0,
+    49.0,
+    64.0,
+    81.0,
+    100.0,
+    121.0,
+    144.0,
+];
+
+const DIVISORS: [f32; M_LEN] = [
+    1.0,
+    3.0,
+    15.0,
+    35.0,
+    63.0,
+    99.0,
+    143.0,
+    195.0,
+    255.0,
+    323.0,
+    399.0,
+    483.0,
+    575.0,
+];
+
+pub fn orders() -> [f32; M_LEN]
+    ensures { λ r. ⌜ r ≡ first lit M-LEN ⌝ }
 {
-    let below = os[n];
-    let k0 = tables::legendre_k(below, os[m]);
-    let k1 = tables::legendre_k(below, os[m + 1]);
-    let k2 = tables::legendre_k(below, os[m + 2]);
-    let k3 = tables::legendre_k(below, os[m + 3]);
-    ks[m] = k0;
-    ks[m + 1] = k1;
-    ks[m + 2] = k2;
-    ks[m + 3] = k3;
+    ORDERS
+}
+
+pub fn squares() -> [f32; M_LEN]
+    ensures { λ r. ⌜ r ≡ first squareAt M-LEN ⌝ }
+{
+    SQUARES
+}
+
+pub fn divisors() -> [f32; M_LEN]
+    ensures { λ r. ⌜ r ≡ first divisorAt M-LEN ⌝ }
+{
+    DIVISORS
+}
+
+// Four lanes after a step, a of degree n - 1 and b of degree n - 2; their weights are from place w on.
+pub fn lower_four(
+    k: FourK,
+    w: usize,
+    cw: &[f32; W_LEN],
+    sw: &[f32; W_LEN],
+    a: Four,
+    b: Four,
+) -> Four
+    requires { ⌜ w + 3 < W-LEN ⌝ }
+    ensures { λ r. ⌜ (r .r0 ≡ loweredAt w (k .k0) (now (cw .entry)) (now (sw .entry)) (a .r0) (b .r0))
+        × (r .r1 ≡ loweredAt (w + 1) (k .k1) (now (cw .entry)) (now (sw .entry)) (a .r1) (b .r1))
+        × (r .r2 ≡ loweredAt (w + 2) (k .k2) (now (cw .entry)) (now (sw .entry)) (a .r2) (b .r2))
+        × (r .r3 ≡ loweredAt (w + 3) (k .k3) (now (cw .entry)) (now (sw .entry)) (a .r3) (b .r3)) ⌝ }
+{
+    let r0 = lower_p_dp(k.k0, cw[w], sw[w], a.r0, b.r0);
+    let r1 = lower_p_dp(k.k1, cw[w + 1], sw[w + 1], a.r1, b.r1);
+    let r2 = lower_p_dp(k.k2, cw[w + 2], sw[w + 2], a.r2, b.r2);
+    let r3 = lower_p_dp(k.k3, cw[w + 3], sw[w + 3], a.r3, b.r3);
+    Four { r0, r1, r2, r3 }
+}
+
+// The factors of the degree after n for the lanes m to m + 3: made one degree ahead, so that no lane
+// waits for a division.
+pub fn next_k(n: usize, m: usize, os: &[f32; M_LEN], sq: &[f32; M_LEN], ds: &[f32; M_LEN]) -> FourK
+    requires { ⌜ (n < M-LEN) × (m + 3 < M-LEN) ⌝ }
+    ensures { λ r. ⌜ (r .k0 ≡ nextK (now (os .entry)) (now (sq .entry)) (now (ds .entry)) n m)
+        × (r .k1 ≡ nextK (now (os .entry)) (now (sq .entry)) (now (ds .entry)) n (m + 1))
+        × (r .k2 ≡ nextK (now (os .entry)) (now (sq .entry)) (now (ds .entry)) n (m + 2))
+        × (r .k3 ≡ nextK (now (os .entry)) (now (sq .entry)) (now (ds .entry)) n (m + 3)) ⌝ }
+{
+    let square = sq[n];
+    let divisor = ds[n];
+    let k0 = tables::legendre_k_over(square, os[m], divisor);
+    let k1 = tables::legendre_k_over(square, os[m + 1], divisor);
+    let k2 = tables::legendre_k_over(square, os[m + 2], divisor);
+    let k3 = tables::legendre_k_over(square, os[m + 3], divisor);
+    FourK { k0, k1, k2, k3 }
 }

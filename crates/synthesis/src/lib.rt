@@ -15,6 +15,7 @@ mod near_pole;
 mod numbers;
 mod paths;
 mod rows;
+mod terms;
 
 // The orders of a row.
 const M_LEN: usize = tables::N_MAX + 1;

@@ -1,26 +1,17 @@
-// P and its derivative, row by row: three rows of thirteen, whose roles rotate after each degree.
+// P and its derivative: three rows of thirteen of each, whose roles rotate after each degree.
 use crate::M_LEN;
-use crate::lanes::W_LEN;
-use tables::N_MAX;
+use crate::lanes::Four;
 ghost use mathlib.Core.Path.{_≡_};
-ghost use Prim.Native.Nat.{_+_, _*_, _-_, _/_, _<_, _≤_};
-ghost use Rattle.tables.specs.Degree.{M-LEN, N-LEGENDRE, N-MAX, place};
+ghost use Prim.Native.Nat.{_+_, _<_, _≤_};
+ghost use Rattle.tables.specs.Degree.{M-LEN, N-LEGENDRE, place};
 ghost use Rattle.sums.specs.Arithmetic.{rounded};
 ghost use Rattle.sums.specs.Recurrence.{step};
-ghost use Rattle.synthesis.specs.Code.{W-LEN, cells, lowered, loweredAt, pdp, put, put4, qp, rotated};
+ghost use Rattle.synthesis.specs.Code.{cells, lowered, pdp, put, put4, qp, rotated};
 
 // P and its derivative with respect to the colatitude.
 pub struct PDp {
     pub p: f32,
     pub dp: f32,
-}
-
-// The same of four orders, side by side.
-pub struct Four {
-    pub r0: PDp,
-    pub r1: PDp,
-    pub r2: PDp,
-    pub r3: PDp,
 }
 
 // Which row holds degree n - 2, n - 1 and n.
@@ -105,46 +96,16 @@ pub fn p_dp_at(m: usize, k: usize, p: &[[f32; M_LEN]; 3], dp: &[[f32; M_LEN]; 3]
     }
 }
 
-// Lane m, ks the factors of the degree, and what P is multiplied by at place w.
-pub fn lower_lane(
-    m: usize,
-    w: usize,
-    ks: &[f32; N_MAX],
-    cw: &[f32; W_LEN],
-    sw: &[f32; W_LEN],
-    p: &[[f32; M_LEN]; 3],
-    dp: &[[f32; M_LEN]; 3],
-    q: Places,
-) -> PDp
-    requires { ⌜ (m < N-MAX) × (w < W-LEN) × (q .prev1 < 3) × (q .prev2 < 3) ⌝ }
-    ensures { λ r. ⌜ r ≡ loweredAt m w (now (ks .entry)) (now (cw .entry)) (now (sw .entry)) (now (p .entry)) (now (dp .entry)) q ⌝ }
+// The lanes m to m + 3 of the row k.
+pub fn four_at(m: usize, k: usize, p: &[[f32; M_LEN]; 3], dp: &[[f32; M_LEN]; 3]) -> Four
+    requires { ⌜ (m + 3 < M-LEN) × (k < 3) ⌝ }
+    ensures { λ r. ⌜ (r .r0 ≡ pdp (cells (now (p .entry)) (now (dp .entry)) k m)) × (r .r1 ≡ pdp (cells (now (p .entry)) (now (dp .entry)) k (m + 1)))
+        × (r .r2 ≡ pdp (cells (now (p .entry)) (now (dp .entry)) k (m + 2))) × (r .r3 ≡ pdp (cells (now (p .entry)) (now (dp .entry)) k (m + 3))) ⌝ }
 {
-    let prev1 = p_dp_at(m, q.prev1, p, dp);
-    let prev2 = p_dp_at(m, q.prev2, p, dp);
-    lower_p_dp(ks[m], cw[w], sw[w], prev1, prev2)
-}
-
-// The lanes m to m + 3. All are read before any is stored, so that they run at once.
-pub fn lower_four(
-    m: usize,
-    w: usize,
-    ks: &[f32; N_MAX],
-    cw: &[f32; W_LEN],
-    sw: &[f32; W_LEN],
-    p: &[[f32; M_LEN]; 3],
-    dp: &[[f32; M_LEN]; 3],
-    q: Places,
-) -> Four
-    requires { ⌜ (m + 3 < N-MAX) × (w + 3 < W-LEN) × (q .prev1 < 3) × (q .prev2 < 3) ⌝ }
-    ensures { λ r. ⌜ (r .r0 ≡ loweredAt m w (now (ks .entry)) (now (cw .entry)) (now (sw .entry)) (now (p .entry)) (now (dp .entry)) q)
-        × (r .r1 ≡ loweredAt (m + 1) (w + 1) (now (ks .entry)) (now (cw .entry)) (now (sw .entry)) (now (p .entry)) (now (dp .entry)) q)
-        × (r .r2 ≡ loweredAt (m + 2) (w + 2) (now (ks .entry)) (now (cw .entry)) (now (sw .entry)) (now (p .entry)) (now (dp .entry)) q)
-        × (r .r3 ≡ loweredAt (m + 3) (w + 3) (now (ks .entry)) (now (cw .entry)) (now (sw .entry)) (now (p .entry)) (now (dp .entry)) q) ⌝ }
-{
-    let r0 = lower_lane(m, w, ks, cw, sw, p, dp, q);
-    let r1 = lower_lane(m + 1, w + 1, ks, cw, sw, p, dp, q);
-    let r2 = lower_lane(m + 2, w + 2, ks, cw, sw, p, dp, q);
-    let r3 = lower_lane(m + 3, w + 3, ks, cw, sw, p, dp, q);
+    let r0 = p_dp_at(m, k, p, dp);
+    let r1 = p_dp_at(m + 1, k, p, dp);
+    let r2 = p_dp_at(m + 2, k, p, dp);
+    let r3 = p_dp_at(m + 3, k, p, dp);
     Four { r0, r1, r2, r3 }
 }
 

@@ -18,7 +18,7 @@ use Rattle.exact.proofs.Wholes.{lit-one, lit-zero, short-not-above, whole-above
 use Rattle.tables.specs.Degree.{place}
 use Rattle.tables.specs.Tables.{SOURCE-MAX, kBits}
 use Rattle.tables.specs.Rule.{kOf}
-use Rattle.tables.specs.Division.{atLeastZero, kDivided, kDivisor}
+use Rattle.tables.specs.Division.{atLeastZero, kDivided, kDivisor, kOver}
 use Rattle.tables.proofs.TableStatement.{k-stored}
 
 -- ---- the fraction of degree n + 1: (n^2 - m^2) / (4n^2 - 1)
@@ -82,7 +82,7 @@ divisor-fine (suc a) h = (omega arith, omega arith)
 
 -- the division of the code: n the degree before, m the order
 divided : (n m : ℕ) → n ≤ 2048 → m ≤ 4096 → kDivided (lit n) (lit m) ≡ round binary32 false (n * n - m * m) (divisor (n * n))
-unfolding kDivided
+unfolding kDivided kOver
 divided n m N M =
     let p : n * n ≤ 2 ^ 22 = le-trans (mul-le-mul N N) (lit≤ tt) in
     let q : m * m ≤ 2 ^ 24 = le-trans (mul-le-mul M M) (lit≤ tt) in

@@ -3,7 +3,7 @@
 // elements anew.
 ghost use mathlib.Core.Path.{_≡_};
 ghost use Rattle.tables.specs.Tables.{schmidtTable};
-ghost use Rattle.tables.specs.Division.{atLeastZero, kDivided, kDivisor};
+ghost use Rattle.tables.specs.Division.{atLeastZero, kDivided, kDivisor, kOver};
 
 pub const N_MAX: usize = 12;
 
@@ -130,13 +130,18 @@ fn k_divisor(square: f32) -> f32
     }
 }
 
+// K from what a degree has alone, the square of n - 1 and the divisor: the sums look both up once a degree.
+pub fn legendre_k_over(square: f32, order: f32, divisor: f32) -> f32
+    ensures { λ r. ⌜ r ≡ kOver square order divisor ⌝ }
+{
+    not_below_zero(square - order * order) / divisor
+}
+
 // K, the recurrence factor of order m in degree n, from n - 1 and m as f32: one division of two whole
 // numbers. It is made of floats, and its two tests only choose a number, so that four lanes run at once.
 pub fn legendre_k(below: f32, order: f32) -> f32
     ensures { λ r. ⌜ r ≡ kDivided below order ⌝ }
 {
     let square = below * below;
-    let top = not_below_zero(square - order * order);
-    let under = k_divisor(square);
-    top / under
+    legendre_k_over(square, order, k_divisor(square))
 }

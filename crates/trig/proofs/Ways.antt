@@ -1,11 +1,12 @@
 -- What the functions of `src/lib.rt` return, on each of their ways. Assumes nothing.
-use mathlib.Core.Path.{_≡_, sym, ap, _∙_, subst}
+use mathlib.Core.Path.{_≡_, refl, sym, ap, _∙_, subst}
 use Prim.Native.Nat.{ℕ, _+_, _-_, _*_, _/_, _%_, _^_, _≤_, _<_}
 use native.Mathlib.Omega.{arith}
-use mathlib.Core.Bool.{Bool, true, false, not}
-use lib.Dec.{T}
-use lib.Ieee.{Float, binary32, ofBits, fits}
-use borrow.Author.Tests.{not-true, not-false, lt-leb, le-leb, lt-ltb, le-ltb, eq-eqb, ne-eqb}
+use native.Mathlib.Nat.{le-trans}
+use mathlib.Core.Bool.{Bool, true, false, not, cond}
+use lib.Dec.{T, leb, ltb, leb→le, le→leb, lit≤}
+use lib.Ieee.{Float, binary32, ofBits, fits, neg}
+use borrow.Author.Tests.{not-true, not-false, lt-leb, le-leb, eq-eqb, ne-eqb}
 use Rattle.exact.specs.Tests.{between}
 use Rattle.float32.specs.Bits.{bitsOf, floatOf}
 use Rattle.trig.specs.declared.Pair.{Pair}
@@ -46,18 +47,20 @@ module _ (y : ℕ) where
   unfolding leftOf
   left-180 g h = rw (lt-leb y 23592960 g, lt-leb y 35389440 h)
 
-  module _ (p : Pair) (f : p ≡ nearPair (leftOf y)) where
-    pub far-90 : y ≤ 23592960 → less90 p ≡ farPair y
-    unfolding farPair
-    far-90 h = rw (le-leb y 23592960 h) (ap (λ (q : Pair). less90 q) f)
+-- the sine and the cosine, each chosen by itself: a is y ≤ 90 degrees, b y ≤ 135
+quadrant : (p : Pair) (a b : Bool) → (T a → T b)
+    → _≡_ {A = Pair} (record { sine = cond b (p .cosine) (p .sine); cosine = cond b (cond a (p .sine) (neg (p .sine))) (neg (p .cosine)) }) (cond a (less90 p) (cond b (more90 p) (less180 p)))
+quadrant p true true h = refl
+quadrant p true false h = absurd (h tt)
+quadrant p false true h = refl
+quadrant p false false h = refl
 
-    pub far-135 : 23592960 < y → y ≤ 35389440 → more90 p ≡ farPair y
-    unfolding farPair
-    far-135 g h = rw (lt-leb y 23592960 g, le-leb y 35389440 h) (ap (λ (q : Pair). more90 q) f)
-
-    pub far-180 : 23592960 < y → 35389440 < y → less180 p ≡ farPair y
-    unfolding farPair
-    far-180 g h = rw (lt-leb y 23592960 g, lt-leb y 35389440 h) (ap (λ (q : Pair). less180 q) f)
+pub far-is : (y : ℕ) (p : Pair) (s c : Float) → p ≡ nearPair (leftOf y) → s ≡ cond (leb y 35389440) (p .cosine) (p .sine)
+    → c ≡ cond (leb y 35389440) (cond (leb y 23592960) (p .sine) (neg (p .sine))) (neg (p .cosine)) → _≡_ {A = Pair} (record { sine = s; cosine = c }) (farPair y)
+unfolding farPair
+far-is y p s c f g h =
+    rw (g, h, sym f)
+    (quadrant p (leb y 23592960) (leb y 35389440) (λ t. le→leb y 35389440 (le-trans {m = 23592960} (leb→le y 23592960 t) (lit≤ tt))))
 
 -- ---- the entry
 module _ (x : Float) (r : Bool) (e : r ≡ not (between (ofBits binary32 0xc3340000) (ofBits binary32 0x43340000) x)) where
@@ -72,16 +75,12 @@ module _ (x : Float) (r : Bool) (e : r ≡ not (between (ofBits binary32 0xc3340
 pub bits-in : (x : Float) (b : ℕ) → fits binary32 x ≡ true → accepted x ≡ true → b ≡ bitsOf x → b % 2147483648 ≤ 1127481344
 bits-in x b h a e = rw e (accepted-bits x (subst T (sym h) tt) (subst T (sym a) tt))
 
-pub at-plus : (x : Float) (b : ℕ) (p : Pair) → b ≡ bitsOf x → b < 2147483648 → p ≡ pairOf (b % 2147483648) → p ≡ pairAt x
-unfolding pairAt
-at-plus x b p e l f = f ∙ go b e l
-  where
-    go : (b : ℕ) → b ≡ bitsOf x → b < 2147483648 → pairOf (b % 2147483648) ≡ pairAt x
-    go b e l = let l' : bitsOf x < 2147483648 = rw e at l in rw (e, lt-ltb (bitsOf x) 2147483648 l')
+-- only the sine has the sign
+signed : (p : Pair) (b : Bool) → _≡_ {A = Pair} (record { sine = cond b (p .sine) (neg (p .sine)); cosine = p .cosine }) (cond b p (below p))
+signed p true = refl
+signed p false = refl
 
-pub at-minus : (x : Float) (b : ℕ) (p : Pair) → b ≡ bitsOf x → 2147483648 ≤ b → p ≡ pairOf (b % 2147483648) → below p ≡ pairAt x
+pub at-is : (x : Float) (b : ℕ) (p : Pair) (s : Float) → b ≡ bitsOf x → p ≡ pairOf (b % 2147483648) → s ≡ cond (ltb b 2147483648) (p .sine) (neg (p .sine))
+    → _≡_ {A = Pair} (record { sine = s; cosine = p .cosine }) (pairAt x)
 unfolding pairAt
-at-minus x b p e l f = ap (λ (q : Pair). below q) f ∙ go b e l
-  where
-    go : (b : ℕ) → b ≡ bitsOf x → 2147483648 ≤ b → below (pairOf (b % 2147483648)) ≡ pairAt x
-    go b e l = let l' : 2147483648 ≤ bitsOf x = rw e at l in rw (e, le-ltb (bitsOf x) 2147483648 l')
+at-is x b p s e f g = rw (g, sym e, sym f) (signed p (ltb b 2147483648))

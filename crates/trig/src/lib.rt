@@ -1,6 +1,9 @@
 // The sine and the cosine of an angle in degrees, by whole numbers. No call of a C library.
 use refusals::Refusal;
 ghost use mathlib.Core.Path.{_≡_};
+ghost use mathlib.Core.Bool.{cond};
+ghost use lib.Dec.{leb, ltb};
+ghost use lib.Ieee.{neg};
 ghost use Prim.Native.Nat.{ℕ, _<_, _≤_, _^_, _-_, _*_};
 ghost use Rattle.trig.specs.Fixed.{stepOf, sinePart, cosinePart, squareOf, sineLong, sineBits, cosineBits, smallPair, liftBy, nearPair, leftOf, farPair, pairOf, said, sineSays};
 ghost use Rattle.trig.specs.Angle.{PairOf, OnCircle};
@@ -180,6 +183,38 @@ fn left(y: u64) -> u64
     47185920 - y
 }
 
+// The sine of y of 2^-18 degree, from 45 to 180 degrees, p the pair of what is left to 90 or 180. One
+// float by each question, here, in the next two and in `with_sign`: so an Arm processor chooses with no
+// jump.
+fn far_sine(y: u64, p: Pair) -> f32
+    ensures { λ r. ⌜ r ≡ cond (leb y 35389440) (p .cosine) (p .sine) ⌝ }
+{
+    if y <= 35389440 {
+        return p.cosine;
+    }
+    p.sine
+}
+
+// c, with a minus beyond 90 degrees.
+fn minus_beyond(y: u64, c: f32) -> f32
+    ensures { λ r. ⌜ r ≡ cond (leb y 23592960) c (neg c) ⌝ }
+{
+    if y <= 23592960 {
+        return c;
+    }
+    -c
+}
+
+// The cosine of the same y.
+fn far_cosine(y: u64, p: Pair) -> f32
+    ensures { λ r. ⌜ r ≡ cond (leb y 35389440) (cond (leb y 23592960) (p .sine) (neg (p .sine))) (neg (p .cosine)) ⌝ }
+{
+    if y <= 35389440 {
+        return minus_beyond(y, p.sine);
+    }
+    -p.cosine
+}
+
 // The pair of y of 2^-18 degree, from 45 to 180 degrees. The quadrant is asked for after the sums, which
 // need not wait for it.
 fn far_pair(y: u64) -> Pair
@@ -188,21 +223,9 @@ fn far_pair(y: u64) -> Pair
     ensures { λ r. ⌜ r ≡ farPair y ⌝ }
 {
     let p = near(left(y));
-    if y <= 23592960 {
-        return Pair {
-            sine: p.cosine,
-            cosine: p.sine,
-        };
-    }
-    if y <= 35389440 {
-        return Pair {
-            sine: p.cosine,
-            cosine: -p.sine,
-        };
-    }
     Pair {
-        sine: p.sine,
-        cosine: -p.cosine,
+        sine: far_sine(y, p),
+        cosine: far_cosine(y, p),
     }
 }
 
@@ -225,6 +248,16 @@ fn pair_of(b: u32) -> Pair
     far_pair(shifted(w, e - 132))
 }
 
+// s with the sign of the bit pattern b.
+fn with_sign(b: u32, s: f32) -> f32
+    ensures { λ r. ⌜ r ≡ cond (ltb b 2147483648) s (neg s) ⌝ }
+{
+    if b < 2147483648 {
+        return s;
+    }
+    -s
+}
+
 // The sine and the cosine of x degrees, from -180 to 180.
 pub fn sine_and_cosine(x: f32) -> PairAnswer
     ensures answer { λ r. ⌜ said r ≡ sineSays x ⌝ }
@@ -238,11 +271,8 @@ pub fn sine_and_cosine(x: f32) -> PairAnswer
     }
     let b = float32::to_bits(x);
     let p = pair_of(b % 2147483648);
-    if b < 2147483648 {
-        return PairAnswer::Made(p);
-    }
     PairAnswer::Made(Pair {
-        sine: -p.sine,
+        sine: with_sign(b, p.sine),
         cosine: p.cosine,
     })
 }

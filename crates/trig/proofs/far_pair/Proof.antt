@@ -1,7 +1,7 @@
 -- `trig::far_pair` meets its contract. Assumes nothing.
-use mathlib.Core.Path.{_≡_, ap, _∙_}
-use Rattle.trig.specs.Fixed.{nearPair, leftOf}
-use Rattle.trig.proofs.Ways.{far-90, far-135, far-180}
+use mathlib.Core.Path.{ap, _∙_}
+use Rattle.trig.specs.Fixed.{nearPair}
+use Rattle.trig.proofs.Ways.{far-is}
 use borrow.Author.Needs.{needs}
 use Rattle.trig.proofs.far_pair.Statement.{statement}
 use Rattle.trig.proofs.far_pair.Tie as tie
@@ -12,24 +12,18 @@ left-requires c κs = search needs
 near-requires : tie.Need-near-requires
 near-requires c κs = search needs
 
--- the pair that the quadrant is made of
-made : (c : tie.After-near) → c .near .result ≡ nearPair (leftOf (c .before .before .args .y))
-made c = c .near .ensures ∙ ap nearPair (c .before .left .ensures .0)
+far-sine-requires : tie.Need-far-sine-requires
+far-sine-requires c κs = search needs
+
+far-cosine-requires : tie.Need-far-cosine-requires
+far-cosine-requires c κs = search needs
 
 returns : tie.Need-returns
-returns c = let n = c .before in far-90 (n .before .before .args .y) (n .near .result) (made n) (c .if1 .taken)
-
-returns-2 : tie.Need-returns-2
-returns-2 c =
-    let t = c .before in
-    let n = t .before .before in
-    far-135 (n .before .before .args .y) (n .near .result) (made n) (t .before .if1 .left) (t .if2 .taken)
-
-returns-3 : tie.Need-returns-3
-returns-3 c =
-    let t = c .before in
-    let n = t .before .before in
-    far-180 (n .before .before .args .y) (n .near .result) (made n) (t .before .if1 .left) (t .if2 .left)
+returns c =
+    let s = c .before in
+    let n = s .before in
+    let l = n .before in
+    far-is (l .before .args .y) (n .near .result) (s .far-sine .result) (c .far-cosine .result) (n .near .ensures ∙ ap nearPair (l .left .ensures .0)) (s .far-sine .ensures) (c .far-cosine .ensures)
 
 pub far-pair-spec : {M : Type 1} → statement M
-far-pair-spec = tie.close (tie.spec left-requires near-requires returns returns-2 returns-3)
+far-pair-spec = tie.close (tie.spec left-requires near-requires far-sine-requires far-cosine-requires returns)

@@ -1,6 +1,6 @@
--- `synthesis::general::add_terms` meets its contract. The orders below m are added. Assumes nothing.
+-- `synthesis::general::add_terms` meets its contract. The first m terms are added. Assumes nothing.
 use mathlib.Core.Path.{_≡_}
-use Prim.Native.Nat.{_-_, _≤_}
+use Prim.Native.Nat.{_+_, _-_, _≤_}
 use native.Mathlib.Omega.{arith}
 use native.Mathlib.Numerals.{add-one}
 use borrow.Author.Needs.{needs}
@@ -13,15 +13,18 @@ use Rattle.synthesis.proofs.general.add_terms.Statement.{statement}
 use Rattle.synthesis.proofs.general.add_terms.Tie as tie
 
 abbrev Inv-loop : tie.InvT-loop
-Inv-loop count t x₀ y₀ z₀ m₀ x y z m =
-    (m ≤ count) × ((i : Input Float) → (x ≡ total rounded i (cell t 0) m) × (y ≡ total rounded i (cell t 1) m) × (z ≡ total rounded i (cell t 2) m))
+Inv-loop i count t x₀ y₀ z₀ m₀ x y z m =
+    (m ≤ count) × ((j : Input Float) → (x ≡ total rounded j (λ l. cell t 0 (i + l)) m) × (y ≡ total rounded j (λ l. cell t 1 (i + l)) m) × (z ≡ total rounded j (λ l. cell t 2 (i + l)) m))
 
 abbrev μ-loop : tie.MeasureT-loop
-μ-loop count t x₀ y₀ z₀ m₀ x y z m = count - m
+μ-loop i count t x₀ y₀ z₀ m₀ x y z m = count - m
 
 loop-holds : tie.Need-loop-holds Inv-loop μ-loop
 unfolding total rounded
-loop-holds c = (search needs, λ i. (lit-zero, lit-zero, lit-zero))
+loop-holds c = (search needs, λ j. (lit-zero, lit-zero, lit-zero))
+
+add-x : tie.Need-add-x Inv-loop μ-loop
+add-x c = search needs
 
 mul-x : tie.Need-mul-x Inv-loop μ-loop
 mul-x c = search needs
@@ -32,6 +35,9 @@ index-1-x c = search needs
 index-2-x : tie.Need-index-2-x Inv-loop μ-loop
 index-2-x c = search needs
 
+add-y : tie.Need-add-y Inv-loop μ-loop
+add-y c = search needs
+
 mul-y : tie.Need-mul-y Inv-loop μ-loop
 mul-y c = search needs
 
@@ -40,6 +46,9 @@ index-1-y c = search needs
 
 index-2-y : tie.Need-index-2-y Inv-loop μ-loop
 index-2-y c = search needs
+
+add-z : tie.Need-add-z Inv-loop μ-loop
+add-z c = search needs
 
 mul-z : tie.Need-mul-z Inv-loop μ-loop
 mul-z c = search needs
@@ -60,13 +69,13 @@ loop-again : tie.Need-loop-again Inv-loop μ-loop
 unfolding total rounded
 loop-again c =
     let l = c .before .before .before .before in
-    (search needs, λ i. (rw (add-one, l .loop .inv .1 i .0), rw (add-one, l .loop .inv .1 i .1), rw (add-one, l .loop .inv .1 i .2)))
+    (search needs, λ j. (rw (add-one, l .loop .inv .1 j .0), rw (add-one, l .loop .inv .1 j .1), rw (add-one, l .loop .inv .1 j .2)))
 
 returns : tie.Need-returns Inv-loop μ-loop
 returns c =
     let l = c .before .loop in
-    λ i. let e : l .m ≡ c .before .before .args .count = omega arith in
-    rw (l .inv .1 i .0, l .inv .1 i .1, l .inv .1 i .2, e)
+    λ j. let e : l .m ≡ c .before .before .args .count = omega arith in
+    rw (l .inv .1 j .0, l .inv .1 j .1, l .inv .1 j .2, e)
 
 pub add-terms-spec : {M : Type 1} → statement M
 add-terms-spec =
@@ -75,12 +84,15 @@ add-terms-spec =
     Inv-loop
     μ-loop
     loop-holds
+    add-x
     mul-x
     index-1-x
     index-2-x
+    add-y
     mul-y
     index-1-y
     index-2-y
+    add-z
     mul-z
     index-1-z
     index-2-z

@@ -1,13 +1,18 @@
--- `synthesis::general::all_degrees` meets its contract: it hands the loop over the degrees what that asks for. Assumes nothing.
-use mathlib.Core.Path.{ap₂, _∙_}
+-- `synthesis::general::all_degrees` meets its contract: it hands the terms and their sums what they ask for. Assumes nothing.
 use borrow.Author.Needs.{needs}
-use Rattle.synthesis.specs.Code.{startsOf}
-use Rattle.synthesis.proofs.GeneralSum.{weighed}
+use Rattle.synthesis.proofs.TermsHold.{zeros-sized}
+use Rattle.synthesis.proofs.GeneralSum.{fresh-start, started, weighed}
 use Rattle.synthesis.proofs.general.all_degrees.Statement.{statement}
 use Rattle.synthesis.proofs.general.all_degrees.Tie as tie
 
 orders-requires : tie.Need-orders-requires
 orders-requires c κs = search needs
+
+squares-requires : tie.Need-squares-requires
+squares-requires c κs = search needs
+
+divisors-requires : tie.Need-divisors-requires
+divisors-requires c κs = search needs
 
 below-then-requires : tie.Need-below-then-requires
 below-then-requires c κs = search needs
@@ -18,15 +23,33 @@ below-then-requires-2 c κs = search needs
 start-values-requires : tie.Need-start-values-requires
 start-values-requires c κs = search needs
 
-degrees-requires : tie.Need-degrees-requires
-degrees-requires c κs = search needs
+put-all-terms-requires : tie.Need-put-all-terms-requires
+put-all-terms-requires c κs = search needs
+
+add-degrees-requires : tie.Need-add-degrees-requires
+add-degrees-requires c κs = search needs
 
 returns : tie.Need-returns
 returns c = λ i ec es er G.
-    let v = c .before .before .before .before in
+    let q = c .before .before in
+    let v = q .before .before .before .before .before .before .before .before .before .before .before .before .before in
     let w2 = v .before in
     let w1 = w2 .before in
-    c .degrees .ensures i er (v .start-values .ensures ∙ ap₂ startsOf ec es) (rw (w1 .before .orders .ensures) G) (weighed i _ _ _ _ ec es (w1 .below-then .ensures) (w2 .below-then2 .ensures))
+    let d = w1 .before in
+    let s = d .before in
+    c .add-degrees .ensures i er
+    (q .put-all-terms .ensures i (rw (d .divisors .ensures, s .squares .ensures, s .before .orders .ensures) G) (weighed i _ _ _ _ ec es (w1 .below-then .ensures) (w2 .below-then2 .ensures)) (started i _ _ _ ec es (v .start-values .ensures)) (fresh-start i _ _ _ ec es (v .start-values .ensures)) zeros-sized)
 
 pub all-degrees-spec : {M : Type 1} → statement M
-all-degrees-spec = tie.close (tie.spec orders-requires below-then-requires below-then-requires-2 start-values-requires degrees-requires returns)
+all-degrees-spec =
+    tie.close
+    (tie.spec
+    orders-requires
+    squares-requires
+    divisors-requires
+    below-then-requires
+    below-then-requires-2
+    start-values-requires
+    put-all-terms-requires
+    add-degrees-requires
+    returns)

@@ -1,64 +1,172 @@
--- `synthesis::general::four_orders` meets its contract: what one more lane gives, four times. Assumes nothing.
+-- `synthesis::general::four_orders` meets its contract. The loop goes on from what it begins with: the degrees below n are stored. Assumes nothing.
+use mathlib.Core.Path.{_≡_, _∙_, ap}
+use Prim.Native.Nat.{_+_, _-_, _<_, _≤_}
 use native.Mathlib.Omega.{arith}
-use Rattle.synthesis.proofs.PlaceSizes.{least, most}
-use Rattle.synthesis.proofs.FactorsHold.{factors-four}
-use Rattle.synthesis.proofs.GeneralSum.{next-four}
 use borrow.Author.Needs.{needs}
 use denote.Ref.{now}
+use lib.Ieee.{Float}
+use Rattle.tables.specs.Degree.{M-LEN, N-MAX}
+use Rattle.sums.specs.Recurrence.{Input}
+use Rattle.synthesis.specs.Code.{Apart, Given, Weighed, pdp}
+use Rattle.synthesis.proofs.PlaceSizes.{least, most}
+use Rattle.synthesis.proofs.RowsHold.{apart-rotate}
+use Rattle.synthesis.proofs.TermsHold.{Block, block-end, block-start}
+use Rattle.synthesis.proofs.GeneralSum.{Carried, Rows, carried-on, carried-start, places-apart, r0-is, r1-is, r2-is, r3-is, rows-end, rows-next, rows-start, stored}
 use Rattle.synthesis.proofs.general.four_orders.Statement.{statement}
 use Rattle.synthesis.proofs.general.four_orders.Tie as tie
 
-legendre-index-requires : tie.Need-legendre-index-requires
+abbrev Inv-loop : tie.InvT-loop
+Inv-loop m cw sw ss g h g-dot h-dot time-delta os sq ds sin cos p₀ dp₀ t₀ q₀ r₀ k₀ n₀ p dp t q r k n =
+    (m < n) × (n ≤ M-LEN) × Apart q
+    × ((i : Input Float) → Given i ss g h g-dot h-dot time-delta os sq ds sin cos → Weighed i cw sw → Carried i m n₀ r₀ k₀ → Rows i m n₀ m p₀ dp₀ q₀ → Block i m n₀ m t₀
+    → Carried i m n r k × Rows i m n m p dp q × Block i m n m t)
+
+abbrev μ-loop : tie.MeasureT-loop
+μ-loop m cw sw ss g h g-dot h-dot time-delta os sq ds sin cos p₀ dp₀ t₀ q₀ r₀ k₀ n₀ p dp t q r k n =
+    M-LEN - n
+
+four-at-requires : tie.Need-four-at-requires Inv-loop μ-loop
+four-at-requires c κs = search needs
+
+add-n : tie.Need-add-n Inv-loop μ-loop
+add-n c = search needs
+
+loop-holds : tie.Need-loop-holds Inv-loop μ-loop
+loop-holds c = (search needs, search needs, places-apart, λ i G W C R B. (C, R, B))
+
+legendre-index-requires : tie.Need-legendre-index-requires Inv-loop μ-loop
 legendre-index-requires c κs = search needs
 
-add-lower-four : tie.Need-add-lower-four
+four-at-requires-2 : tie.Need-four-at-requires-2 Inv-loop μ-loop
+four-at-requires-2 c κs =
+    let l = c .before .before .before .before in
+    (omega (arith, l .before .before .before .before .before .before .before .before .pre .1 .0), l .loop .inv .2 .prev2)
+
+add-lower-four : tie.Need-add-lower-four Inv-loop μ-loop
 add-lower-four c = search needs
 
-sub-lower-four : tie.Need-sub-lower-four
+sub-lower-four : tie.Need-sub-lower-four Inv-loop μ-loop
 sub-lower-four c = search needs
 
-lower-four-requires : tie.Need-lower-four-requires
+lower-four-requires : tie.Need-lower-four-requires Inv-loop μ-loop
 lower-four-requires c κs =
-    let x = c .before .before .before in
-    let h = x .before .pre in
-    (search needs, search needs, h .5, h .6)
+    let w = c .before .before .before .before in
+    let l = w .before in
+    omega (arith, l .loop .inv .0, w .loop-test .taken, l .before .before .before .before .before .before .before .before .pre .1 .0)
 
-put-four-requires : tie.Need-put-four-requires
-put-four-requires c κs = search needs
+put-four-requires : tie.Need-put-four-requires Inv-loop μ-loop
+put-four-requires c κs =
+    let l = c .before .before .before .before .before .before .before .before in
+    (omega (arith, l .before .before .before .before .before .before .before .before .pre .1 .0), l .loop .inv .2 .cur)
 
-put-next-k-requires : tie.Need-put-next-k-requires
-put-next-k-requires c κs = search needs
+next-k-requires : tie.Need-next-k-requires Inv-loop μ-loop
+next-k-requires c κs =
+    let w = c .before .before .before .before .before .before .before .before in
+    (omega (arith, w .loop-test .taken), omega (arith, w .before .before .before .before .before .before .before .before .before .pre .1 .0))
 
-put-four-terms-requires : tie.Need-put-four-terms-requires
+four-terms-requires : tie.Need-four-terms-requires Inv-loop μ-loop
+four-terms-requires c κs =
+    let x = c .before .before .before .before .before .before .before .before in
+    let w = x .before in
+    let l = w .before in
+    let s = l .before .before .before .before .before .before .before .before in
+    let n = l .loop .n in
+    let e = x .legendre-index .ensures .0 in
+    (s .pre .0, (omega (arith, s .pre .1 .0), omega (arith, e, least n (omega (arith, l .loop .inv .0))), omega (arith, e, most n (omega (arith, w .loop-test .taken)), s .pre .1 .0)))
+
+put-four-terms-requires : tie.Need-put-four-terms-requires Inv-loop μ-loop
 put-four-terms-requires c κs =
     let x = c .before .before .before .before .before .before .before .before .before .before in
-    let h = x .before .pre in
-    let n = x .before .args .n in
-    (search needs, omega (arith, x .legendre-index .ensures .0, least n (h .0)), omega (arith, x .legendre-index .ensures .0, most n (h .1)))
+    let w = x .before in
+    let l = w .before in
+    omega (arith, x .legendre-index .ensures .0, most (l .loop .n) (omega (arith, w .loop-test .taken)), l .before .before .before .before .before .before .before .before .pre .1 .0)
 
-returns : tie.Need-returns
-returns c = λ i G W F w.
-    let k = c .before .before in
-    let p = k .before .before in
-    let l = p .before .before .before in
-    let x = l .before .before .before .before in
-    let o = x .before in
-    let h = o .pre in
-    let e = l .lower-four .ensures in (
-      rw (k .put-next-k .ensures) (factors-four i (o .args .n) (G .K) (now (o .args .os)) (now (o .args .ks)) (o .args .m) (G .order) (h .1) (h .3) F),
-      rw (c .put-four-terms .ensures, p .put-four .ensures .0, p .put-four .ensures .1)
-          (next-four i _ _ _ _ _ _ _ _ (o .args .n) G W (h .0) (h .1) (o .args .m) _ _ (now (o .args .ks)) _ _ _ _ _ (h .4) (h .2) (h .3) (x .legendre-index .ensures .0) (omega arith) (e .0) (e .1) (e .2) (e .3) F w),
+rotate-row-indices-requires : tie.Need-rotate-row-indices-requires Inv-loop μ-loop
+rotate-row-indices-requires c κs = search needs
+
+add-n-2 : tie.Need-add-n-2 Inv-loop μ-loop
+add-n-2 c = omega (arith, c .before .before .before .before .before .before .before .before .before .before .before .before .before .loop-test .taken)
+
+loop-less : tie.Need-loop-less Inv-loop μ-loop
+loop-less c = omega (arith, c .before .before .before .before .before .before .before .before .before .before .before .before .before .loop-test .taken)
+
+loop-again : tie.Need-loop-again Inv-loop μ-loop
+loop-again c =
+    let o = c .before in
+    let f = o .before .before in
+    let x = f .before in
+    let y = x .before in
+    let u = y .before .before .before in
+    let b = u .before in
+    let e = b .before .before .before in
+    let w = e .before in
+    let l = w .before in
+    let s = l .before .before .before .before .before .before .before .before in
+    let a = s .args in
+    let n = l .loop .n in
+    let h = l .loop .inv in
+    let v = u .lower-four .ensures in
+    let d = b .four-at2 .ensures in
+    let q = f .four-terms .ensures in
+    let k = x .next-k .ensures in (
+      search needs,
+      omega (arith, w .loop-test .taken),
+      rw (c .rotate-row-indices .ensures) (apart-rotate _ (h .2)),
+      λ i G W C R B.
+          let t = h .3 i G W C R B in
+          let z : 0 < n = omega (arith, h .0) in
+          let hn : n < M-LEN = w .loop-test .taken in
+          let ek = e .legendre-index .ensures .0 in
+          let ej : a .m + N-MAX - n + n ≡ a .m + N-MAX = omega (arith, hn) in
+          let g = t .1 .prev2 in
+          let b0 = d .0 ∙ ap pdp (g (a .m) (omega arith) (omega arith)) in
+          let b1 = d .1 ∙ ap pdp (g (a .m + 1) (omega arith) (omega arith)) in
+          let b2 = d .2 ∙ ap pdp (g (a .m + 2) (omega arith) (omega arith)) in
+          let b3 = d .3 ∙ ap pdp (g (a .m + 3) (omega arith) (omega arith)) in (
+            carried-on i _ _ _ _ _ _ _ _ _ _ _ _ _ n G W z hn (a .m) _ _ _ _ _ _ (s .pre .1 .1) (h .0) (s .pre .1 .0) ek ej (t .0) b0 b1 b2 b3 (v .0) (v .1) (v .2) (v .3) _ (k .0) (k .1) (k .2) (k .3),
+            rows-next i (a .m) n _ _ _ _ _ _ _ z (omega (arith, s .pre .1 .0))
+                (r0-is i _ _ _ _ _ _ _ _ _ _ _ _ _ n G W z hn (a .m) _ _ _ _ _ _ (s .pre .1 .1) (h .0) (s .pre .1 .0) ek ej (t .0) b0 b1 b2 b3 (v .0) (v .1) (v .2) (v .3))
+                (r1-is i _ _ _ _ _ _ _ _ _ _ _ _ _ n G W z hn (a .m) _ _ _ _ _ _ (s .pre .1 .1) (h .0) (s .pre .1 .0) ek ej (t .0) b0 b1 b2 b3 (v .0) (v .1) (v .2) (v .3))
+                (r2-is i _ _ _ _ _ _ _ _ _ _ _ _ _ n G W z hn (a .m) _ _ _ _ _ _ (s .pre .1 .1) (h .0) (s .pre .1 .0) ek ej (t .0) b0 b1 b2 b3 (v .0) (v .1) (v .2) (v .3))
+                (r3-is i _ _ _ _ _ _ _ _ _ _ _ _ _ n G W z hn (a .m) _ _ _ _ _ _ (s .pre .1 .1) (h .0) (s .pre .1 .0) ek ej (t .0) b0 b1 b2 b3 (v .0) (v .1) (v .2) (v .3))
+                (y .put-four .ensures .0) (y .put-four .ensures .1) (c .rotate-row-indices .ensures) (t .1),
+            rw (o .put-four-terms .ensures) (stored i _ _ _ _ _ _ _ _ _ _ _ _ _ n G W z hn (a .m) _ _ _ _ _ _ (s .pre .1 .1) (h .0) (s .pre .1 .0) ek ej (t .0) b0 b1 b2 b3 (v .0) (v .1) (v .2) (v .3) _ _ (q .0) (q .1) (q .2) (q .3) (t .2)),
+          ),
     )
+
+returns : tie.Need-returns Inv-loop μ-loop
+returns c = λ i G W F A.
+    let l = c .before in
+    let x = l .before in
+    let s = x .before .before .before .before .before .before .before in
+    let a = s .args in
+    let h = s .pre .1 in
+    let d = x .four-at .ensures in
+    let R = rows-start i (a .m) (now (a .p)) (now (a .dp)) (h .1) F in
+    let e : l .loop .n ≡ M-LEN = omega arith in
+    let t = l .loop .inv .3 i G W (carried-start i (a .m) (now (a .p)) (now (a .dp)) _ (G .K) (h .1) (h .0) R (d .0) (d .1) (d .2) (d .3)) R (block-start i (a .m) (now (a .t)) A) in
+    (rows-end i (a .m) _ _ _ _ (t .1), block-end i (a .m) _ (rw e at (t .2)))
 
 pub four-orders-spec : {M : Type 1} → statement M
 four-orders-spec =
     tie.close
     (tie.spec
+    Inv-loop
+    μ-loop
+    four-at-requires
+    add-n
+    loop-holds
     legendre-index-requires
+    four-at-requires-2
     add-lower-four
     sub-lower-four
     lower-four-requires
     put-four-requires
-    put-next-k-requires
+    next-k-requires
+    four-terms-requires
     put-four-terms-requires
+    rotate-row-indices-requires
+    add-n-2
+    loop-less
+    loop-again
     returns)

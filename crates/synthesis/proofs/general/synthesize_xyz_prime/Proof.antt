@@ -19,37 +19,22 @@ sin-cos-m-lambda-requires c κs = search needs
 schmidt-table-requires : tie.Need-schmidt-table-requires
 schmidt-table-requires c κs = search needs
 
-put-at-date-requires : tie.Need-put-at-date-requires
-put-at-date-requires c κs = search needs
-
-put-at-date-requires-2 : tie.Need-put-at-date-requires-2
-put-at-date-requires-2 c κs = search needs
-
 all-degrees-requires : tie.Need-all-degrees-requires
 all-degrees-requires c κs = search needs
 
 returns : tie.Need-returns
 unfolding inputs placed
 returns c =
-    let d2 = c .before .before .before .before .before .before .before .before in
-    let d1 = d2 .before .before in
-    let s = d1 .before .before in
+    let s = c .before .before .before .before .before .before in
     let m = s .before in
     let z = m .before .before .before .before .before in
     let e = z .args in
     let a : Lent = lent (e .cos-theta) (e .sin-theta) (e .sin-lambda) (e .cos-lambda) (e .ratio) (e .time-delta) (now (e .g)) (now (e .h)) (now (e .g-dot)) (now (e .h-dot)) in
     let h = z .pre .0 in
-    c .all-degrees .ensures (inputs rounded a) refl refl refl
-    (given a _ _ _ _ (record { g = h .0; h = h .1; g-dot = h .2; h-dot = h .3 }) (s .schmidt-table .ensures) (d1 .put-at-date .ensures) (d2 .put-at-date2 .ensures) (m .sin-cos-m-lambda .ensures))
+    c .all-degrees .ensures (inputs rounded a) refl refl refl (given a _ _ (record { g = h .0; h = h .1; g-dot = h .2; h-dot = h .3 }) (s .schmidt-table .ensures) (m .sin-cos-m-lambda .ensures))
     ∙ lane-total (inputs rounded a) (plain a (z .pre .1) (subst T (sym (z .good .0 .1)) tt) (subst T (sym (z .good .1 .0 .1)) tt)) N-MAX (le-refl N-MAX)
 
 pub synthesize-xyz-prime-spec : {M : Type 1} → statement M
 synthesize-xyz-prime-spec =
     tie.close
-    (tie.spec
-    sin-cos-m-lambda-requires
-    schmidt-table-requires
-    put-at-date-requires
-    put-at-date-requires-2
-    all-degrees-requires
-    returns)
+    (tie.spec sin-cos-m-lambda-requires schmidt-table-requires all-degrees-requires returns)

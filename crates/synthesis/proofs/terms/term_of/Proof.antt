@@ -1,9 +1,9 @@
--- `synthesis::general::term_of` meets its contract. Assumes nothing.
+-- `synthesis::terms::term_of` meets its contract. Assumes nothing.
 use mathlib.Core.Path.{refl}
 use Rattle.sums.specs.Arithmetic.{rounded}
 use Rattle.synthesis.specs.Code.{termOf}
-use Rattle.synthesis.proofs.general.term_of.Statement.{statement}
-use Rattle.synthesis.proofs.general.term_of.Tie as tie
+use Rattle.synthesis.proofs.terms.term_of.Statement.{statement}
+use Rattle.synthesis.proofs.terms.term_of.Tie as tie
 
 returns : tie.Need-returns
 unfolding termOf rounded

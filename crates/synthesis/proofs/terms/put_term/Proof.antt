@@ -1,9 +1,9 @@
--- `synthesis::general::put_term` meets its contract. Assumes nothing.
+-- `synthesis::terms::put_term` meets its contract. Assumes nothing.
 use mathlib.Core.Path.{refl}
 use Rattle.synthesis.specs.Code.{putTerm}
 use borrow.Author.Needs.{needs}
-use Rattle.synthesis.proofs.general.put_term.Statement.{statement}
-use Rattle.synthesis.proofs.general.put_term.Tie as tie
+use Rattle.synthesis.proofs.terms.put_term.Statement.{statement}
+use Rattle.synthesis.proofs.terms.put_term.Tie as tie
 
 mul-t : tie.Need-mul-t
 mul-t c = search needs

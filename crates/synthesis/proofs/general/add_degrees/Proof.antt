@@ -1,0 +1,86 @@
+-- `synthesis::general::add_degrees` meets its contract: the degrees below n are added. Assumes nothing.
+use mathlib.Core.Path.{_≡_, _∙_}
+use Prim.Native.Nat.{_-_, _<_, _≤_}
+use native.Mathlib.Omega.{arith}
+use borrow.Author.Needs.{needs}
+use lib.Ieee.{Float}
+use Rattle.tables.specs.Degree.{M-LEN, N-MAX}
+use Rattle.exact.proofs.Wholes.{lit-zero}
+use Rattle.sums.specs.Arithmetic.{rounded}
+use Rattle.sums.specs.Recurrence.{Input, power}
+use Rattle.synthesis.specs.Code.{Filled, laneTotal}
+use Rattle.synthesis.proofs.PlaceSizes.{most}
+use Rattle.synthesis.proofs.GeneralSum.{added, more-degrees, more-power}
+use Rattle.synthesis.proofs.general.add_degrees.Statement.{statement}
+use Rattle.synthesis.proofs.general.add_degrees.Tie as tie
+
+abbrev Inv-loop : tie.InvT-loop
+Inv-loop ratio t ar₀ tot₀ n₀ ar tot n =
+    (0 < n) × (n ≤ M-LEN) × ((i : Input Float) → ratio ≡ i .ratio → Filled i 0 t → (ar ≡ power rounded i (n - 1)) × (tot ≡ laneTotal i (n - 1)))
+
+abbrev μ-loop : tie.MeasureT-loop
+μ-loop ratio t ar₀ tot₀ n₀ ar tot n =
+    M-LEN - n
+
+loop-holds : tie.Need-loop-holds Inv-loop μ-loop
+unfolding power rounded laneTotal
+loop-holds c = (search needs, search needs, λ i e f. (rw e, rw lit-zero))
+
+legendre-index-requires : tie.Need-legendre-index-requires Inv-loop μ-loop
+legendre-index-requires c κs = search needs
+
+add-add-terms : tie.Need-add-add-terms Inv-loop μ-loop
+add-add-terms c = search needs
+
+add-terms-requires : tie.Need-add-terms-requires Inv-loop μ-loop
+add-terms-requires c κs =
+    let l = c .before .before in
+    omega (arith, c .legendre-index .ensures .0, most (l .loop .n) (omega arith))
+
+add-degree-requires : tie.Need-add-degree-requires Inv-loop μ-loop
+add-degree-requires c κs = search needs
+
+add-n : tie.Need-add-n Inv-loop μ-loop
+add-n c = search needs
+
+loop-less : tie.Need-loop-less Inv-loop μ-loop
+loop-less c = search needs
+
+loop-again : tie.Need-loop-again Inv-loop μ-loop
+loop-again c =
+    let a = c .before in
+    let x = a .before in
+    let l = x .before .before in
+    let n = l .loop .n in (
+      search needs,
+      omega arith,
+      λ i e f.
+          let u = l .loop .inv .2 i e f in
+          let z = l .loop .inv .0 in
+          let hn : n < M-LEN = omega arith in (
+            rw e (more-power i n _ z (u .0)),
+            c .add-degree .ensures ∙ more-degrees i n _ _ _ z (u .1) (u .0) (added i n _ _ _ z hn (x .legendre-index .ensures .0) f (a .add-terms .ensures i)),
+          ),
+    )
+
+returns : tie.Need-returns Inv-loop μ-loop
+returns c = λ i e f.
+    let l = c .before .loop in
+    let n : l .n - 1 ≡ N-MAX = omega arith in
+    rw n at (l .inv .2 i e f .1)
+
+pub add-degrees-spec : {M : Type 1} → statement M
+add-degrees-spec =
+    tie.close
+    (tie.spec
+    Inv-loop
+    μ-loop
+    loop-holds
+    legendre-index-requires
+    add-add-terms
+    add-terms-requires
+    add-degree-requires
+    add-n
+    loop-less
+    loop-again
+    returns)
