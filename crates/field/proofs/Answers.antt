@@ -9,6 +9,7 @@ use lib.IntN.{ℤ, pos, negsuc}
 use lib.Ieee.{Float, le}
 use mir.Syntax.{w32}
 use mir.Val.{SFits, ofZ, toZ}
+use mir.ValLaws.{toZ-ofZ}
 use Rattle.refusals.specs.Paper.{Paper, answered, refused, paper, unless, after, told}
 use Rattle.refusals.proofs.Laws.{passed, paper-one, no-answer, answered-one, told-answered, told-carry}
 use Rattle.refusals.specs.declared.Verdict.{Verdict}
@@ -85,6 +86,10 @@ year-back (pos n) e = go (eqb n 2020) (eqb n 2025) (eqb-true n 2020) (eqb-true n
     go false true f g h = rw (g refl)
     go false false f g h = absurd (let z : _≡_ {A = ℕ} 0 1 = cc in omega arith)
 year-back (negsuc n) e = absurd (let z : _≡_ {A = ℕ} 0 1 = cc in omega arith)
+
+-- a set of the day's own year is of a known year
+pub own-known : (a b : ℤ) → SFits w32 a → knownEpoch b ≡ true → ofZ w32 a ≡ ofZ w32 b → knownEpoch a ≡ true
+own-known a b f k h = ap knownEpoch (sym (toZ-ofZ w32 a f) ∙ ap (toZ w32) h ∙ year-back b k) ∙ k
 
 -- ---- from the set's year on
 module _ (a : Asked) (e : EpochOffset) where

@@ -67,7 +67,8 @@ fn components_at(
     requires { ⌜ FieldAccepted (asked height (latitude .sin) (latitude .cos) (longitude .sin) (longitude .cos) «epoch_year» (now g) (now h) (now «g_dot») (now «h_dot»)) e ⌝ }
     ensures { λ r. ⌜ componentsSaid r ≡ datedSays (asked height (latitude .sin) (latitude .cos) (longitude .sin) (longitude .cos) «epoch_year» (now (g .entry)) (now (h .entry)) (now («g_dot» .entry)) (now («h_dot» .entry))) e ⌝ }
 {
-    if !models::known_epoch(epoch_year) {
+    // The day's own year is known, so no branch turns on which of the two sets it is.
+    if epoch_year != e.epoch_year && !models::known_epoch(epoch_year) {
         return ComponentsAnswer::Refused(models::UNKNOWN_EPOCH);
     }
     let p = geodetic_to_geocentric(height, latitude.sin, latitude.cos);
@@ -167,7 +168,7 @@ pub fn field_with(
 
 // Refusals 1 to 8 in their order, then the answer. `answer` is demands 1 and 2, `distance` demand 3;
 // the lent slices keep what they hold. The figures are looked up by the set's year: where they are
-// used, refusal 8 has found it to be the day's.
+// used, refusal 8 has found it to be the day's. They come last, so the sums need not carry them.
 pub fn field(
     height: f32,
     latitude: Latitude,
@@ -183,16 +184,18 @@ pub fn field(
     ensures distance { λ r. ⌜ ((v : GeomagneticField) → r ≡ FieldAnswer.Field v → FieldClose (asked height (latitude .sin) (latitude .cos) (longitude .sin) (longitude .cos) «epoch_year» (now (g .entry)) (now (h .entry)) (now («g_dot» .entry)) (now («h_dot» .entry))) (epochOffset (day .year) (day .«day_of_year»)) v) ⌝ }
     ensures kept { λ _. ⌜ (now (g .exit) ≡ now (g .entry)) × (now (h .exit) ≡ now (h .entry)) × (now («g_dot» .exit) ≡ now («g_dot» .entry)) × (now («h_dot» .exit) ≡ now («h_dot» .entry)) ⌝ }
 {
-    field_with(
-        height,
-        latitude,
-        longitude,
-        day,
-        epoch_year,
-        g,
-        h,
-        g_dot,
-        h_dot,
+    with_figures(
+        components(
+            height,
+            latitude,
+            longitude,
+            day,
+            epoch_year,
+            g,
+            h,
+            g_dot,
+            h_dot,
+        ),
         models::error_model_by_epoch_year(epoch_year),
     )
 }

@@ -52,14 +52,19 @@ which y (inr h) = inr (eqb-true y 2025 h)
 never : _≡_ {A = ℕ} 0 1 → ⊥
 never h = omega arith
 
-below-zero : (r : ℕ) → knownEpoch (negℤ (pos r)) ≡ true → ⊥
+not-minus : (r : ℕ) → knownEpoch (negℤ (pos r)) ≡ false
 unfolding knownEpoch
-below-zero zero h = never (cc)
-below-zero (suc r) h = never (cc)
+not-minus zero = refl
+not-minus (suc r) = refl
 
 neg-epochs : (r : ℕ) → negℤ (pos r) *ℤ pos EPOCH-YEARS ≡ negℤ (pos (r * EPOCH-YEARS))
 neg-epochs zero = refl
 neg-epochs (suc r) = refl
+
+-- no year below zero has a known epoch
+pub below-zero : (y : ℕ) → knownEpoch (epochYear (negsuc y)) ≡ false
+unfolding epochYear
+below-zero y = rw (neg-epochs (suc y / EPOCH-YEARS)) (not-minus (suc y / EPOCH-YEARS * EPOCH-YEARS))
 
 in-epoch : (year : ℤ) → knownEpoch (epochYear year) ≡ true → InEpoch year
 unfolding epochYear knownEpoch
@@ -73,7 +78,7 @@ in-epoch (pos y) h =
       since = omega arith;
       until = omega arith;
     }
-in-epoch (negsuc y) h = absurd (below-zero (suc y / EPOCH-YEARS * EPOCH-YEARS) (rw (neg-epochs (suc y / EPOCH-YEARS)) at h))
+in-epoch (negsuc y) h = absurd (never (let b = below-zero y in cc))
 
 -- ---- the day
 record InYear (year day : ℤ) : Type 0 where

@@ -8,6 +8,11 @@ ghost use Rattle.models.specs.Epochs.{epochYear, knownEpoch, naturalOffs
 
 const WMM_EPOCH_INTERVAL_YEARS: i32 = 5;
 
+// The two models serve from the first day of FIRST_YEAR to the last day of LAST_YEAR.
+const FIRST_YEAR: i32 = 2020;
+
+const LAST_YEAR: i32 = 2029;
+
 pub struct EpochOffset {
     pub epoch_year: i32,
     pub offset: f32,
@@ -18,14 +23,14 @@ pub enum EpochAnswer {
     Refused(Refusal),
 }
 
-// Refusal 5: the two models serve from the first day of 2020 to the last of 2029.
+// Refusal 5, with the first and the last day that are served.
 pub const UNKNOWN_EPOCH: Refusal = Refusal::EpochYear {
     first: Day {
-        year: 2020,
+        year: FIRST_YEAR,
         day_of_year: 1,
     },
     last: Day {
-        year: 2029,
+        year: LAST_YEAR,
         day_of_year: 365,
     },
 };
@@ -61,10 +66,12 @@ pub fn epoch(year: i32, day_of_year: i32) -> EpochAnswer
     if (days as i32) < day_of_year {
         return EpochAnswer::Refused(Refusal::DayOfYear);
     }
-    let epoch_year = date_to_epoch_year(year);
-    if !known_epoch(epoch_year) {
+    // Asked of the year and not of its epoch year: the answer is the same for both sets, so no branch
+    // turns on which of them serves the day.
+    if year < FIRST_YEAR || LAST_YEAR < year {
         return EpochAnswer::Refused(UNKNOWN_EPOCH);
     }
+    let epoch_year = date_to_epoch_year(year);
     let offset = years_since_epoch(year as u16, epoch_year as u16, day_of_year as u16, days);
     EpochAnswer::Epoch(EpochOffset { epoch_year, offset })
 }

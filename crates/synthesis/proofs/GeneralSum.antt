@@ -6,14 +6,14 @@ use Prim.Native.Nat.{ℕ, zero, suc, _+_, _*_, _-_, _/_, _<_, _≤_}
 use native.Mathlib.Nat.{not-suc-le-zero}
 use native.Mathlib.Omega.{arith}
 use borrow.Author.Tests.{le-ltb, lt-ltb}
-use lib.Dec.{ltb}
-use mathlib.Core.Bool.{cond}
-use lib.ListN.{getD, length}
+use lib.Dec.{eqb, ltb}
+use mathlib.Core.Bool.{Bool, true, false, cond}
+use lib.ListN.{getD, length, replicate, getD-replicate}
 use lib.Ieee.{Float, nan, binary32, mul, ofBits}
 use Rattle.exact.proofs.Wholes.{lit-one, lit-zero}
 use Rattle.tables.specs.Tables.{schmidtAt, schmidtTable}
 use Rattle.tables.specs.Degree.{M-LEN, N-COEFF, N-LEGENDRE, N-MAX, place}
-use Rattle.tables.specs.Division.{kDivided}
+use Rattle.tables.specs.Division.{kDivided, kOver}
 use Rattle.tables.specs.Rule.{kOf}
 use Rattle.tables.proofs.Factors.{k-whole, k-zero}
 use Rattle.synthesis.specs.declared.rows.PDp.{PDp}
@@ -27,9 +27,9 @@ use Rattle.synthesis.specs.declared.terms.FourXyz.{FourXyz}
 use Rattle.sums.specs.Recurrence.{Input, coefficient, lit, power, total, x-sum, y-sum, z-sum}
 use Rattle.synthesis.specs.Sum.{Lent, inputs}
 use Rattle.sums.specs.Paths.{at, nought, placed}
-use Rattle.synthesis.specs.Code.{Apart, Filled, Fresh, Given, Sized, Started, W-LEN, Weighed, addDegree, anglesOf, cellXyz, cells, cosAt, divisorAt, first, general, lane, laneStep, laneSums, laneTerms, laneTotal, loweredAt, nextK, pairAt, pdp, put, put4, put4Terms, rotated, rowSums, sinAt, squareAt, start, startAt, startsOf, termAt, termOf, totals}
+use Rattle.synthesis.specs.Code.{Apart, Filled, Fresh, Given, Sized, Started, W-LEN, Weighed, addDegree, anglesOf, cell, cellXyz, cells, cosAt, divisorAt, first, general, lane, laneStep, laneSums, laneTerms, laneTotal, loweredAt, nextK, none, pairAt, pdp, put, put4, put4Terms, rotated, rowSums, sinAt, squareAt, start, startAt, startsOf, termAt, termOf, totals, twoBack}
 use Rattle.sums.specs.Arithmetic.{Pair, pair, rounded}
-use Rattle.synthesis.proofs.LaneLaws.{Plain, lane-idle, lane-next, lane-sums}
+use Rattle.synthesis.proofs.LaneLaws.{Plain, lane-begun, lane-next, lane-sums, none-back, two-back}
 use Rattle.sums.proofs.Step.{less-or, same-or}
 use Rattle.synthesis.proofs.RowsHold.{apart-rotate, put-other, put-row, put-same, put-sized}
 use Rattle.synthesis.proofs.TermsHold.{Block, block-next, block-put}
@@ -110,9 +110,9 @@ pub record Rows (i : Input Float) (m n j : ℕ) (p d : List (List Float)) (q : P
   pub d-sized : Sized M-LEN d
   pub apart : Apart q
   pub prev1 : (l : ℕ) → m ≤ l → l < m + 4 → cells p d (q .prev1) l ≡ lane i (n - 1) l
-  pub prev2 : (l : ℕ) → m ≤ l → l < m + 4 → cells p d (q .prev2) l ≡ lane i (n - 2) l
+  pub prev2 : (l : ℕ) → m ≤ l → l < m + 4 → cells p d (q .prev2) l ≡ twoBack i n l
   pub done : (l : ℕ) → m ≤ l → l < j → cells p d (q .cur) l ≡ lane i n l
-  pub fresh : (k l : ℕ) → k < 3 → l < m → cells p d k l ≡ start i l
+  pub fresh : (k l : ℕ) → k < 3 → l < m → cells p d k l ≡ cond (eqb k 1) (start i l) none
 
 module _ (i : Input Float) (m n j : ℕ) (p d : List (List Float)) (q : Places) (hm : m ≤ j) (hj : j < M-LEN) (w : Rows i m n j p d q) (u v : Float) where
   other : (k l : ℕ) → (k ≡ q .cur → ⊥) → cells (put p (q .cur) j u) (put d (q .cur) j v) k l ≡ cells p d k l
@@ -137,7 +137,7 @@ module _ (i : Input Float) (m n j : ℕ) (p d : List (List Float)) (q : Places) 
             (same-or l j);
         fresh = λ k l hk hl.
             ⊎-elim
-            (λ (a : k ≡ q .cur). rw (a, beside l (λ b. omega arith)) (rw a at (w .fresh k l hk hl)))
+            (λ (a : k ≡ q .cur). ap (λ (x : ℕ). cells (put p (q .cur) j u) (put d (q .cur) j v) x l) a ∙ beside l (λ b. omega arith) ∙ ap (λ (x : ℕ). cells p d x l) (sym a) ∙ w .fresh k l hk hl)
             (λ a. other k l a ∙ w .fresh k l hk hl)
             (same-or k (q .cur));
       }
@@ -147,12 +147,13 @@ rows-turn : (i : Input Float) (m n : ℕ) (p d : List (List Float)) (q : Places)
 rows-turn i m n p d q z w =
     let u : n + 1 - 1 ≡ n = omega arith in
     let v : n + 1 - 2 ≡ n - 1 = omega arith in
+    let b : (l : ℕ) → twoBack i (n + 1) l ≡ lane i (n - 1) l = λ l. two-back i (n + 1) l (omega arith) ∙ rw v refl in
     record {
       p-sized = w .p-sized;
       d-sized = w .d-sized;
       apart = apart-rotate q (w .apart);
       prev1 = λ l h1 h2. rw u (w .done l h1 h2);
-      prev2 = λ l h1 h2. rw v (w .prev1 l h1 h2);
+      prev2 = λ l h1 h2. w .prev1 l h1 h2 ∙ sym (b l);
       done = λ l h1 h2. absurd (omega arith);
       fresh = w .fresh;
     }
@@ -186,13 +187,12 @@ places-apart = record {
 -- before the first degree of four orders
 pub rows-start : (i : Input Float) (m : ℕ) (p d : List (List Float)) → 4 * (m / 4) ≡ m → Fresh i (m + 4) p d → Rows i m (m + 1) m p d places
 rows-start i m p d e f =
-    let at : (k x l : ℕ) → k < 3 → x ≤ m → m ≤ l → l < m + 4 → cells p d k l ≡ lane i x l = λ k x l hk hx h1 h2. f .starts k l hk h2 ∙ sym (lane-idle i x l (omega arith)) in
     record {
       p-sized = f .p-sized;
       d-sized = f .d-sized;
       apart = places-apart;
-      prev1 = λ l h1 h2. at 1 (m + 1 - 1) l (omega arith) (omega arith) h1 h2;
-      prev2 = λ l h1 h2. at 0 (m + 1 - 2) l (omega arith) (omega arith) h1 h2;
+      prev1 = λ l h1 h2. f .starts 1 l (omega arith) h2 ∙ sym (lane-begun i (m + 1 - 1) l (omega arith));
+      prev2 = λ l h1 h2. f .starts 0 l (omega arith) h2 ∙ sym (none-back i (m + 1) l (omega arith));
       done = λ l h1 h2. absurd (omega arith);
       fresh = λ k l hk hl. f .starts k l hk (omega arith);
     }
@@ -200,31 +200,44 @@ rows-start i m p d e f =
 pub rows-end : (i : Input Float) (m n : ℕ) (p d : List (List Float)) (q : Places) → Rows i m n m p d q → Fresh i m p d
 rows-end i m n p d q w = record { p-sized = w .p-sized; d-sized = w .d-sized; starts = w .fresh }
 
--- three rows of start values
-abbrev pub thrice : List Float → List (List Float)
-thrice l = l ∷ l ∷ l ∷ []
-
-thrice-at : (l : List Float) (k : ℕ) → k < 3 → getD (thrice l) k [] ≡ l
-thrice-at l zero h = refl
-thrice-at l (suc zero) h = refl
-thrice-at l (suc (suc zero)) h = refl
-thrice-at l (suc (suc (suc k))) h = absurd (omega arith)
+-- a row of start values between two of zeros
+abbrev pub between : List Float → List (List Float)
+between l = let z = replicate M-LEN (ofBits binary32 0) in z ∷ l ∷ z ∷ []
 
 first-length : (f : ℕ → Float) (n : ℕ) → length (first f n) ≡ n
 unfolding first
 first-length f zero = refl
 first-length f (suc n) = ap suc (first-length (λ k. f (suc k)) n)
 
-pub fresh-start : (i : Input Float) (c s : Float) (d : Starts) → c ≡ i .cos-theta → s ≡ i .sin-theta → d ≡ startsOf c s → Fresh i N-MAX (thrice (d .p)) (thrice (d .dp))
+between-sized : (l : List Float) → length l ≡ M-LEN → Sized M-LEN (between l)
+between-sized l e = record { rows = refl; cells = at }
+  where
+    at : (k : ℕ) → k < 3 → length (getD (between l) k []) ≡ M-LEN
+    at zero h = refl
+    at (suc zero) h = e
+    at (suc (suc zero)) h = refl
+    at (suc (suc (suc k))) h = absurd (omega arith)
+
+-- a choice between pairs, number by number
+chosen : (b : Bool) (x y : Pair Float) → pair (cond b (x .fst) (y .fst)) (cond b (x .snd) (y .snd)) ≡ cond b x y
+chosen true x y = refl
+chosen false x y = refl
+
+between-at : (f : ℕ → Float) (k l : ℕ) → k < 3 → l < M-LEN → cell (between (first f M-LEN)) k l ≡ cond (eqb k 1) (f l) (lit 0)
+between-at f zero l h hl = getD-replicate M-LEN l (ofBits binary32 0) nan hl ∙ lit-zero
+between-at f (suc zero) l h hl = first-get f M-LEN l hl
+between-at f (suc (suc zero)) l h hl = getD-replicate M-LEN l (ofBits binary32 0) nan hl ∙ lit-zero
+between-at f (suc (suc (suc k))) l h hl = absurd (omega arith)
+
+pub fresh-start : (i : Input Float) (c s : Float) (d : Starts) → c ≡ i .cos-theta → s ≡ i .sin-theta → d ≡ startsOf c s → Fresh i N-MAX (between (d .p)) (between (d .dp))
 unfolding startsOf
 fresh-start i c s d ec es e =
-    let long : (f : ℕ → Float) → Sized M-LEN (thrice (first f M-LEN)) = λ f. record { rows = refl; cells = λ k h. ap length (thrice-at (first f M-LEN) k h) ∙ first-length f M-LEN } in
+    let p : ℕ → Float = λ m. startAt (i .cos-theta) (i .sin-theta) m .fst in
+    let q : ℕ → Float = λ m. startAt (i .cos-theta) (i .sin-theta) m .snd in
     rw (e, ec, es) (record {
-      p-sized = long (λ m. startAt (i .cos-theta) (i .sin-theta) m .fst);
-      d-sized = long (λ m. startAt (i .cos-theta) (i .sin-theta) m .snd);
-      starts = λ k l hk hl.
-          let l13 : l < M-LEN = omega arith in
-          rw (thrice-at (first (λ m. startAt (i .cos-theta) (i .sin-theta) m .fst) M-LEN) k hk, thrice-at (first (λ m. startAt (i .cos-theta) (i .sin-theta) m .snd) M-LEN) k hk, first-get (λ m. startAt (i .cos-theta) (i .sin-theta) m .fst) M-LEN l l13, first-get (λ m. startAt (i .cos-theta) (i .sin-theta) m .snd) M-LEN l l13) refl;
+      p-sized = between-sized (first p M-LEN) (first-length p M-LEN);
+      d-sized = between-sized (first q M-LEN) (first-length q M-LEN);
+      starts = λ k l hk hl. ap₂ (λ (a b : Float). pair a b) (between-at p k l hk (omega arith)) (between-at q k l hk (omega arith)) ∙ chosen (eqb k 1) (start i l) none;
     })
 
 -- the two ways to ask whether a lane is below the degree
@@ -233,11 +246,11 @@ alike m n j e = ⊎-elim (λ (h : m < n). lt-ltb j N-MAX (omega arith) ∙ sym (
 
 module _ (i : Input Float) (cw sw ss g h g-dot h-dot : List Float) (time : Float) (os sq ds sin cos : List Float) (n : ℕ) (G : Given i ss g h g-dot h-dot time os sq ds sin cos) (W : Weighed i cw sw) (z : 0 < n) (hn : n < M-LEN) where
   -- j is the place of lane m in the lists of weights
-  lane-is : (m j : ℕ) (k : Float) (a b r : PDp) → 4 * (m / 4) + 1 ≤ n → j + n ≡ m + N-MAX → j < W-LEN → k ≡ i .K n m → a ≡ pdp (lane i (n - 1) m) → b ≡ pdp (lane i (n - 2) m)
+  lane-is : (m j : ℕ) (k : Float) (a b r : PDp) → 4 * (m / 4) < n → j + n ≡ m + N-MAX → j < W-LEN → k ≡ i .K n m → a ≡ pdp (lane i (n - 1) m) → b ≡ pdp (twoBack i n m)
       → r ≡ loweredAt j k cw sw a b → r ≡ pdp (lane i n m)
   unfolding laneStep
   lane-is m j k a b r ht ej hj ek ea eb er =
-      let f : lane i n m ≡ laneStep i n m (lane i (n - 1) m) (lane i (n - 2) m) = lane-next i n m z ∙ rw (le-ltb n (4 * (m / 4) + 1) ht) refl in
+      let f : lane i n m ≡ laneStep i n m (lane i (n - 1) m) (twoBack i n m) = lane-next i n m z ht in
       er ∙ rw (ek, ea, eb, W .cos-theta j hj, W .sin-theta j hj, alike m n j ej) refl ∙ ap pdp (sym f)
 
   term-is : (m k : ℕ) (r : PDp) → m ≤ n → k ≡ place n m → r ≡ pdp (lane i n m) → termAt m k r ss g h g-dot h-dot time os sin cos ≡ laneTerms i n m
@@ -249,7 +262,7 @@ module _ (i : Input Float) (cw sw ss g h g-dot h-dot : List Float) (time : Float
   -- the division gives the next degree's factor
   factor-is : (m : ℕ) (k : Float) → m < M-LEN → k ≡ nextK os sq ds n m → k ≡ i .K (n + 1) m
   unfolding kDivided squareAt divisorAt
-  factor-is m k hm e = e ∙ rw (G .K, G .order m hm, G .square n hn, G .divisor n hn) (k-whole n m (omega arith) (omega arith))
+  factor-is m k hm e = e ∙ ap (λ (x : Float). kOver x (getD os m nan) (getD ds n nan)) (G .square n hn) ∙ rw (G .K, G .order m hm, G .divisor n hn) (k-whole n m (omega arith) (omega arith))
 
   -- the same, of a term that is named
   term-of : (m k : ℕ) (r : PDp) (v : Xyz) → k ≡ place n m → r ≡ pdp (lane i n m) → v ≡ termAt m k r ss g h g-dot h-dot time os sin cos → m ≤ n → v ≡ laneTerms i n m
@@ -257,10 +270,10 @@ module _ (i : Input Float) (cw sw ss g h g-dot h-dot : List Float) (time : Float
 
   -- one degree more of the four orders
   module _ (m k j : ℕ) (a b r : Four) (f : FourK) (hm : 4 * (m / 4) ≡ m) (l : m < n) (h3 : m + 3 < N-MAX) (ek : k ≡ place n m) (ej : j + n ≡ m + N-MAX) (C : Carried i m n a f)
-      (b0 : b .r0 ≡ pdp (lane i (n - 2) m))
-      (b1 : b .r1 ≡ pdp (lane i (n - 2) (m + 1)))
-      (b2 : b .r2 ≡ pdp (lane i (n - 2) (m + 2)))
-      (b3 : b .r3 ≡ pdp (lane i (n - 2) (m + 3)))
+      (b0 : b .r0 ≡ pdp (twoBack i n m))
+      (b1 : b .r1 ≡ pdp (twoBack i n (m + 1)))
+      (b2 : b .r2 ≡ pdp (twoBack i n (m + 2)))
+      (b3 : b .r3 ≡ pdp (twoBack i n (m + 3)))
       (e0 : r .r0 ≡ loweredAt j (f .k0) cw sw (a .r0) (b .r0))
       (e1 : r .r1 ≡ loweredAt (j + 1) (f .k1) cw sw (a .r1) (b .r1))
       (e2 : r .r2 ≡ loweredAt (j + 2) (f .k2) cw sw (a .r2) (b .r2))
@@ -310,7 +323,7 @@ module _ (i : Input Float) (cw sw ss g h g-dot h-dot : List Float) (time : Float
 
   -- the order that is the degree, where four lanes begin
   pub corner-is : (p d : List Float) (v : Xyz) → 4 * (n / 4) ≡ n → Started i p d → v ≡ termAt n (place n n) (pairAt p d n) ss g h g-dot h-dot time os sin cos → v ≡ laneTerms i n n
-  corner-is p d v e s ev = ev ∙ term-is n (place n n) (pairAt p d n) (omega arith) refl (s n hn ∙ ap pdp (sym (lane-idle i n n (omega arith))))
+  corner-is p d v e s ev = ev ∙ term-is n (place n n) (pairAt p d n) (omega arith) refl (s n hn ∙ ap pdp (sym (lane-begun i n n (sym e))))
 
 -- before the first degree of four orders
 pub carried-start : (i : Input Float) (m : ℕ) (p d : List (List Float)) (a : Four) → i .K ≡ kOf → 4 * (m / 4) ≡ m → m + 3 < N-MAX → Rows i m (m + 1) m p d places
@@ -341,7 +354,7 @@ added i n k t acc z hn ek f e =
     let w : (l : ℕ) → l < n + 1 → cellXyz t (k + l) ≡ laneTerms i n l = λ l h. (let p : k + l ≡ place n l = omega arith in rw p (f .terms-are n l z (omega arith) (omega arith) (omega arith))) in
     e ∙
     rw (
-      total-same i (λ l. cellXyz t (k + l) .x) (λ l. laneTerms i n l .x) (n + 1) (λ l h. ap (λ (v : Xyz). v .x) (w l h)),
+      total-same i (λ l. rounded .opp (cellXyz t (k + l) .x)) (λ l. rounded .opp (laneTerms i n l .x)) (n + 1) (λ l h. ap (λ (v : Xyz). rounded .opp (v .x)) (w l h)),
       total-same i (λ l. cellXyz t (k + l) .y) (λ l. laneTerms i n l .y) (n + 1) (λ l h. ap (λ (v : Xyz). v .y) (w l h)),
       total-same i (λ l. cellXyz t (k + l) .z) (λ l. laneTerms i n l .z) (n + 1) (λ l h. ap (λ (v : Xyz). v .z) (w l h)),
     )

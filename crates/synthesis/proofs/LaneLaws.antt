@@ -1,4 +1,4 @@
--- The lanes hold P. But for a zero's sign lane m is P(n, m) in the degrees from m on, and P(m, m) before. So the sums are those of the recurrences.
+-- The lanes hold P. But for a zero's sign lane m is P(n, m) in the degrees from m on, and P(m, m) from where its four lanes begin. So the sums are those of the recurrences.
 use mathlib.Core.Path.{_≡_, refl, sym, ap, _∙_}
 use Prim.Native.Nat.{ℕ, zero, suc, _+_, _*_, _-_, _/_, _<_, _≤_}
 use native.Mathlib.Nat.{not-suc-le-zero}
@@ -14,12 +14,13 @@ use lib.Ieee.Scale.{finite}
 use Rattle.tables.specs.Degree.{N-MAX}
 use Rattle.sums.specs.Arithmetic.{Pair, pair, rounded}
 use Rattle.sums.specs.Recurrence.{Input, dpsn, gc-hs, gs-hc, legendre, lit, psn, step, x-row, x-term, y-row, y-term, z-row, z-term}
-use Rattle.synthesis.specs.Code.{lane, laneStep, laneSums, laneTerms, lowered, rowSums, start, startAt, termOf}
+use Rattle.synthesis.specs.Code.{lane, laneStep, laneSums, laneTerms, lowered, none, rowSums, start, startAt, termOf, twoBack}
 use Rattle.sums.specs.Same.{Same, same}
 use Rattle.sums.proofs.SameLaws.{mul-same, same-trans, sub-same}
 use Rattle.sums.proofs.Kept.{Null, less-null, mul-null, null-less, null-mul, one-times, times-one}
-use Rattle.sums.proofs.Step.{legendre-next, same-or}
+use Rattle.sums.proofs.Step.{legendre-next, less-or, same-or}
 use Rattle.sums.proofs.ZeroSign.{total-unseen}
+use Rattle.synthesis.proofs.TurnedSign.{turned-term}
 
 -- what the law asks of what is read: numbers of the format, finite, and K a zero from order n - 1 on
 pub record Plain (i : Input Float) : Type 0 where
@@ -44,19 +45,35 @@ lowered-same c s k p o = (
 )
 
 -- ---- one more degree, from the two before
-pub lane-next : (i : Input Float) (n m : ℕ) → 0 < n → lane i n m ≡ cond (ltb n (4 * (m / 4) + 1)) (start i m) (laneStep i n m (lane i (n - 1) m) (lane i (n - 2) m))
+pub two-back : (i : Input Float) (n m : ℕ) → 2 ≤ n → twoBack i n m ≡ lane i (n - 2) m
+two-back i n m h = rw (le-ltb n 2 h) refl
+
+pub lane-next : (i : Input Float) (n m : ℕ) → 0 < n → 4 * (m / 4) < n → lane i n m ≡ laneStep i n m (lane i (n - 1) m) (twoBack i n m)
 unfolding lane
-lane-next i zero m z = absurd (not-suc-le-zero z)
-lane-next i (suc zero) m z = refl
-lane-next i (suc (suc n)) m z =
+lane-next i zero m z h = absurd (not-suc-le-zero z)
+lane-next i (suc zero) m z h = rw (le-ltb 1 (4 * (m / 4)) (omega arith), le-ltb 0 (4 * (m / 4)) (omega arith)) refl
+lane-next i (suc (suc n)) m z h =
     let u : suc (suc n) - 1 ≡ suc n = omega arith in
     let v : suc (suc n) - 2 ≡ n = omega arith in
-    rw (u, v) refl
+    rw (two-back i (suc (suc n)) m (omega arith), u, v, le-ltb (suc (suc n)) (4 * (m / 4)) (omega arith), ne-eqb (suc (suc n)) (4 * (m / 4)) (λ e. omega arith)) refl
 
--- before its four lanes take a step
-pub lane-idle : (i : Input Float) (n m : ℕ) → n < 4 * (m / 4) + 1 → lane i n m ≡ start i m
-lane-idle i zero m l = unfold lane in refl
-lane-idle i (suc n) m l = lane-next i (suc n) m (omega arith) ∙ rw (lt-ltb (suc n) (4 * (m / 4) + 1) l) refl
+-- before its four lanes begin
+lane-none : (i : Input Float) (n m : ℕ) → n < 4 * (m / 4) → lane i n m ≡ none
+unfolding lane
+lane-none i zero m l = rw (lt-ltb 0 (4 * (m / 4)) l) refl
+lane-none i (suc zero) m l = rw (lt-ltb 1 (4 * (m / 4)) l) refl
+lane-none i (suc (suc n)) m l = rw (lt-ltb (suc (suc n)) (4 * (m / 4)) l) refl
+
+-- where they begin
+pub lane-begun : (i : Input Float) (n m : ℕ) → n ≡ 4 * (m / 4) → lane i n m ≡ start i m
+unfolding lane
+lane-begun i zero m e = rw (le-ltb 0 (4 * (m / 4)) (omega arith)) refl
+lane-begun i (suc zero) m e = absurd (omega arith)
+lane-begun i (suc (suc n)) m e = rw (le-ltb (suc (suc n)) (4 * (m / 4)) (omega arith), eq-eqb (suc (suc n)) (4 * (m / 4)) e) refl
+
+-- what their first step reads of the degree before
+pub none-back : (i : Input Float) (n m : ℕ) → n ≤ 4 * (m / 4) + 1 → twoBack i n m ≡ none
+none-back i n m l = ⊎-elim (λ (h : n < 2). rw (lt-ltb n 2 h) refl) (λ (h : 2 ≤ n). two-back i n m h ∙ lane-none i (n - 2) m (omega arith)) (less-or n 2)
 
 -- ---- the branches of the row step
 module _ (c s k : Float) (n m : ℕ) (q' q r : Pair Float) where
@@ -111,7 +128,18 @@ module _ (i : Input Float) (w : Plain i) where
   start-finite m l = rw (start-is m) (w .P-finite m m l)
 
   -- ---- a lane before its degree
-  kept : (n m : ℕ) → n ≤ m → m ≤ N-MAX → {q r : Pair Float} → SameP q (start i m) → SameP r (start i m) → SameP (laneStep i n m q r) (start i m)
+  -- but for a zero's sign a pair of finite numbers: nothing, or the start value
+  pub record Tame (r : Pair Float) : Type 0 where
+    pub to : Pair Float
+    pub like : SameP r to
+    pub held : T (finite (to .fst)) × T (finite (to .snd))
+
+  -- zero is the derivative that order 0 starts with
+  tame-none : Tame none
+  unfolding startAt
+  tame-none = let f = start-finite 0 (omega arith) .1 in record { to = none; like = (same, same); held = (f, f) }
+
+  kept : (n m : ℕ) → n ≤ m → m ≤ N-MAX → {q r : Pair Float} → SameP q (start i m) → Tame r → SameP (laneStep i n m q r) (start i m)
   unfolding laneStep rounded
   kept n m l M {q} {r} p o =
       let a = start i m in
@@ -119,21 +147,27 @@ module _ (i : Input Float) (w : Plain i) where
       let f = start-finite m M in
       let k = i .K n m in
       let z : Null k = w .K-null n m (omega arith) in
-      let v = lowered-same (lit 1) (lit 0) k p o in
+      let v = lowered-same (lit 1) (lit 0) k p (o .like) in
       rw (le-ltb m n l) (
-        same-trans (v .0) (rw (one-times (a .fst) (h .0)) (less-null (a .fst) _ (h .0) (null-mul k (a .fst) z (f .0)))),
-        same-trans (v .1) (rw (one-times (a .snd) (h .1)) (same-trans (sub-same (less-null (a .snd) _ (h .1) (null-mul (lit 0) (a .fst) zero-null (f .0))) same) (less-null (a .snd) _ (h .1) (null-mul k (a .snd) z (f .1))))),
+        same-trans (v .0) (rw (one-times (a .fst) (h .0)) (less-null (a .fst) _ (h .0) (null-mul k (o .to .fst) z (o .held .0)))),
+        same-trans (v .1) (rw (one-times (a .snd) (h .1)) (same-trans (sub-same (less-null (a .snd) _ (h .1) (null-mul (lit 0) (a .fst) zero-null (f .0))) same) (less-null (a .snd) _ (h .1) (null-mul k (o .to .snd) z (o .held .1))))),
       )
 
-  either : (b : Bool) {x y z : Pair Float} → SameP x z → SameP y z → SameP (cond b x y) z
-  either true p q = p
-  either false p q = q
+  -- what was read before, where the lane is at its start from its first degree on
+  past : (n m : ℕ) → m ≤ N-MAX → (4 * (m / 4) ≤ n → SameP (lane i n m) (start i m)) → Tame (lane i n m)
+  past n m M p = ⊎-elim (λ (h : n < 4 * (m / 4)). rw (lane-none i n m h) tame-none) (λ h. record { to = start i m; like = p h; held = start-finite m M }) (less-or n (4 * (m / 4)))
 
-  above : (n m : ℕ) → n ≤ m → m ≤ N-MAX → SameP (lane i n m) (start i m)
-  unfolding lane
-  above zero m l M = (same, same)
-  above (suc zero) m l M = either (ltb 1 (4 * (m / 4) + 1)) (same, same) (kept 1 m l M (same, same) (same, same))
-  above (suc (suc n)) m l M = either (ltb (suc (suc n)) (4 * (m / 4) + 1)) (same, same) (kept (suc (suc n)) m l M (above (suc n) m (omega arith) M) (above n m (omega arith) M))
+  grown : (n m : ℕ) → 0 < n → 4 * (m / 4) ≤ n → n ≤ m → m ≤ N-MAX → (4 * (m / 4) ≤ n - 1 → SameP (lane i (n - 1) m) (start i m)) → Tame (twoBack i n m) → SameP (lane i n m) (start i m)
+  grown n m z b l M p t =
+      ⊎-elim (λ (e : n ≡ 4 * (m / 4)). rw (lane-begun i n m e) (same, same)) (λ e. rw (lane-next i n m z (omega arith)) (kept n m l M (p (omega arith)) t)) (same-or n (4 * (m / 4)))
+
+  above : (n m : ℕ) → 4 * (m / 4) ≤ n → n ≤ m → m ≤ N-MAX → SameP (lane i n m) (start i m)
+  above zero m b l M = rw (lane-begun i 0 m (omega arith)) (same, same)
+  above (suc zero) m b l M = grown 1 m (omega arith) b l M (λ h. above zero m h (omega arith) M) tame-none
+  above (suc (suc n)) m b l M =
+      let u : suc (suc n) - 1 ≡ suc n = omega arith in
+      let v : suc (suc n) - 2 ≡ n = omega arith in
+      grown (suc (suc n)) m (omega arith) b l M (λ h. rw u (above (suc n) m (rw u at h) (omega arith) M)) (rw (two-back i (suc (suc n)) m (omega arith), v) (past n m M (λ h. above n m h (omega arith) M)))
 
   -- ---- a lane from its degree on
   -- below the degree the step is the row step's last branch
@@ -142,7 +176,7 @@ module _ (i : Input Float) (w : Plain i) where
   stepped-below n m l q r = rw (lt-ltb m n l) refl
 
   -- degree 1, order 0
-  first-near : SameP (lowered (i .cos-theta) (i .sin-theta) (i .K 1 0) (start i 0) (start i 0)) (pair (i .cos-theta) (rounded .opp (i .sin-theta)))
+  first-near : SameP (lowered (i .cos-theta) (i .sin-theta) (i .K 1 0) (start i 0) none) (pair (i .cos-theta) (rounded .opp (i .sin-theta)))
   unfolding startAt rounded
   first-near =
       let c = i .cos-theta in
@@ -150,31 +184,30 @@ module _ (i : Input Float) (w : Plain i) where
       let k = i .K 1 0 in
       let z : Null k = w .K-null 1 0 (omega arith) in
       let f = start-finite 0 (omega arith) in (
-        rw (times-one c (w .cos-held)) (less-null c _ (w .cos-held) (null-mul k (lit 1) z (f .0))),
+        rw (times-one c (w .cos-held)) (less-null c _ (w .cos-held) (null-mul k (lit 0) z (f .1))),
         rw (times-one s (w .sin-held))
             (same-trans (sub-same (null-less _ s (mul-null c (lit 0) (w .cos-finite) zero-null) (w .sin-held)) same)
             (less-null (neg s) _ (neg-fits binary32 s (w .sin-held)) (null-mul k (lit 0) z (f .1)))),
       )
 
-  first : SameP (lowered (i .cos-theta) (i .sin-theta) (i .K 1 0) (start i 0) (start i 0)) (legendre rounded i 1 0)
+  first : SameP (lowered (i .cos-theta) (i .sin-theta) (i .K 1 0) (start i 0) none) (legendre rounded i 1 0)
   first =
       let a = start i 0 in
       by-path first-near (sym (first-branch (i .cos-theta) (i .sin-theta) (i .K 1 0) a a a) ∙ row-next i 1 0 (omega arith) (omega arith) a a a (λ h. absurd (not-suc-le-zero h)) (λ h. start-is 0) (λ h. absurd (not-suc-le-zero h)))
 
   -- order n - 1, from degree 2 on
-  module _ (n m : ℕ) (l : 1 < n) (M : n ≤ N-MAX) (e : m + 1 ≡ n) where
+  module _ (n m : ℕ) (l : 1 < n) (M : n ≤ N-MAX) (e : m + 1 ≡ n) (r : Pair Float) (f : T (finite (r .fst)) × T (finite (r .snd))) where
     abbrev over : Pair Float
     over = legendre rounded i (n - 1) m
 
-    next-near : SameP (lowered (i .cos-theta) (i .sin-theta) (i .K n m) over (start i m)) (pair (rounded .times (i .cos-theta) (over .fst)) (rounded .less (rounded .times (i .cos-theta) (over .snd)) (rounded .times (i .sin-theta) (over .fst))))
+    next-near : SameP (lowered (i .cos-theta) (i .sin-theta) (i .K n m) over r) (pair (rounded .times (i .cos-theta) (over .fst)) (rounded .less (rounded .times (i .cos-theta) (over .snd)) (rounded .times (i .sin-theta) (over .fst))))
     unfolding rounded
     next-near =
         let k = i .K n m in
         let z : Null k = w .K-null n m (omega arith) in
-        let f = start-finite m (omega arith) in
-        (less-null _ _ (mul-fits binary32 (i .cos-theta) (over .fst)) (null-mul k (start i m .fst) z (f .0)), less-null _ _ (sub-fits binary32 _ _) (null-mul k (start i m .snd) z (f .1)))
+        (less-null _ _ (mul-fits binary32 (i .cos-theta) (over .fst)) (null-mul k (r .fst) z (f .0)), less-null _ _ (sub-fits binary32 _ _) (null-mul k (r .snd) z (f .1)))
 
-    next : SameP (lowered (i .cos-theta) (i .sin-theta) (i .K n m) over (start i m)) (legendre rounded i n m)
+    next : SameP (lowered (i .cos-theta) (i .sin-theta) (i .K n m) over r) (legendre rounded i n m)
     next =
         let q' = legendre rounded i (n - 1) (m - 1) in
         by-path next-near (sym (next-branch (i .cos-theta) (i .sin-theta) (i .K n m) n m q' over over (λ h. omega arith) e) ∙ row-next i n m (omega arith) (omega arith) q' over over (λ h. refl) (λ h. refl) (λ h. absurd (omega arith)))
@@ -184,23 +217,24 @@ module _ (i : Input Float) (w : Plain i) where
       let q' = legendre rounded i (n - 1) (m - 1) in
       sym (lower-branch (i .cos-theta) (i .sin-theta) (i .K n m) n m q' _ _ l) ∙ row-next i n m (omega arith) (omega arith) q' _ _ (λ h. refl) (λ h. refl) (λ h. refl)
 
-  taken : (n m : ℕ) → 0 < n → m < n → lane i n m ≡ lowered (i .cos-theta) (i .sin-theta) (i .K n m) (lane i (n - 1) m) (lane i (n - 2) m)
-  taken n m z l = lane-next i n m z ∙ rw (le-ltb n (4 * (m / 4) + 1) (omega arith)) (stepped-below n m l (lane i (n - 1) m) (lane i (n - 2) m))
+  taken : (n m : ℕ) → m < n → lane i n m ≡ lowered (i .cos-theta) (i .sin-theta) (i .K n m) (lane i (n - 1) m) (twoBack i n m)
+  taken n m l = lane-next i n m (omega arith) (omega arith) ∙ stepped-below n m l (lane i (n - 1) m) (twoBack i n m)
 
   at-last : (n m : ℕ) → n ≤ N-MAX → m ≡ n → SameP (lane i n m) (legendre rounded i n m)
-  at-last n m M e = rw e (by-path (above n n (omega arith) M) (start-is n))
+  at-last n m M e = rw e (by-path (above n n (omega arith) (omega arith) M) (start-is n))
 
   below-one : SameP (lane i 1 0) (legendre rounded i 1 0)
-  below-one = rw (taken 1 0 (omega arith) (omega arith)) (unfold lane in first)
+  below-one = rw (taken 1 0 (omega arith)) (unfold lane in first)
 
   both : (n m : ℕ) → n ≤ N-MAX → m + 2 ≤ n → SameP (lane i (n - 1) m) (legendre rounded i (n - 1) m) → SameP (lane i (n - 2) m) (legendre rounded i (n - 2) m) → SameP (lane i n m) (legendre rounded i n m)
-  both n m M l p o = rw (taken n m (omega arith) (omega arith)) (by-path (lowered-same (i .cos-theta) (i .sin-theta) (i .K n m) p o) (lower n m l))
+  both n m M l p o = rw (taken n m (omega arith), two-back i n m (omega arith)) (by-path (lowered-same (i .cos-theta) (i .sin-theta) (i .K n m) p o) (lower n m l))
 
   beside : (n m : ℕ) → 1 < n → n ≤ N-MAX → m + 1 ≡ n → SameP (lane i (n - 1) m) (legendre rounded i (n - 1) m) → SameP (lane i n m) (legendre rounded i n m)
   beside n m z M e p =
-      let v = lowered-same (i .cos-theta) (i .sin-theta) (i .K n m) p (above (n - 2) m (omega arith) (omega arith)) in
-      let x = next n m z M e in
-      rw (taken n m (omega arith) (omega arith)) (same-trans (v .0) (x .0), same-trans (v .1) (x .1))
+      let t = past (n - 2) m (omega arith) (λ h. above (n - 2) m h (omega arith) (omega arith)) in
+      let v = lowered-same (i .cos-theta) (i .sin-theta) (i .K n m) p (t .like) in
+      let x = next n m z M e (t .to) (t .held) in
+      rw (taken n m (omega arith), two-back i n m (omega arith)) (same-trans (v .0) (x .0), same-trans (v .1) (x .1))
 
   below : (n m : ℕ) → n ≤ N-MAX → m ≤ n → SameP (lane i n m) (legendre rounded i n m)
   below zero m M l = at-last zero m M (omega arith)
@@ -218,9 +252,9 @@ module _ (i : Input Float) (w : Plain i) where
 
   -- ---- the terms and the sums
   module _ (n : ℕ) (M : n ≤ N-MAX) where
-    x-same : (m : ℕ) → m ≤ n → Same (laneTerms i n m .x) (x-term rounded i n m)
+    x-same : (m : ℕ) → m ≤ n → Same (rounded .opp (laneTerms i n m .x)) (x-term rounded i n m)
     unfolding termOf gc-hs dpsn rounded
-    x-same m l = mul-same same (mul-same same (below n m M l .1))
+    x-same m l = rw turned-term (mul-same same (mul-same same (below n m M l .1)))
 
     y-same : (m : ℕ) → m ≤ n → Same (laneTerms i n m .y) (y-term rounded i n m)
     unfolding termOf gs-hc psn rounded
@@ -235,7 +269,7 @@ module _ (i : Input Float) (w : Plain i) where
     lane-sums =
         rw (
           add-one,
-          total-unseen i (λ m. laneTerms i n m .x) (x-term rounded i n) (suc n) (λ m l. x-same m (omega arith)) (λ m. mul-fits binary32 _ _),
+          total-unseen i (λ m. rounded .opp (laneTerms i n m .x)) (x-term rounded i n) (suc n) (λ m l. x-same m (omega arith)) (λ m. mul-fits binary32 _ _),
           total-unseen i (λ m. laneTerms i n m .y) (y-term rounded i n) (suc n) (λ m l. y-same m (omega arith)) (λ m. mul-fits binary32 _ _),
           total-unseen i (λ m. laneTerms i n m .z) (z-term rounded i n) (suc n) (λ m l. z-same m (omega arith)) (λ m. mul-fits binary32 _ _),
         ) refl

@@ -8,6 +8,7 @@ pub mod GeneralSum
 pub mod PoleSum
 pub mod NumberChecks
 pub mod Answers
+pub mod TurnedSign
 pub mod LaneLaws
 pub mod AcceptedPlain
 pub mod Unique

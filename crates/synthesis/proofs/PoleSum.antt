@@ -24,6 +24,7 @@ use Rattle.synthesis.specs.Code.{addPoleDegree, ghAt, nearPole, nextQ, n
 use Rattle.exact.proofs.Wholes.{lit-one, lit-zero}
 use Rattle.synthesis.proofs.GeneralSum.{Long, g-read, h-read, s-place}
 use Rattle.synthesis.proofs.PlaceSizes.{most}
+use Rattle.synthesis.proofs.TurnedSign.{less-term}
 
 -- what degree n hands on, and what the degree before it did; before degree 0 the recurrence reads 0
 abbrev pub row : Input Float → ℕ → PoleRow
@@ -49,7 +50,7 @@ next-row i (suc n) =
 
 parts-are : (i : Input Float) (n : ℕ) (ar : Float) → poleParts (row i n) (gh (i .g n 0) (i .h n 0)) (gh (i .g n 1) (i .h n 1)) (i .S n 0) (i .S n 1) (record { sin = i .sin-lambda; cos = i .cos-lambda }) ar ≡ parts i n ar
 unfolding poleParts termOf pole-x-row pole-z-row pole-gc pole-gs pole-angle psn dpsn total rounded
-parts-are i n ar = rw (lit-zero, lit-one)
+parts-are i n ar = rw (lit-zero, lit-one, less-term (lit 0), less-term)
 
 more-degrees : (i : Input Float) (n : ℕ) → addPoleDegree (nearPole i n) (suc n) (power rounded i n) (parts i (suc n) (power rounded i n)) ≡ nearPole i (suc n)
 unfolding addPoleDegree pole-x pole-y pole-z total rounded

@@ -17,7 +17,7 @@ use Rattle.synthesis.specs.declared.angles.SinCos.{SinCos}
 use Rattle.synthesis.specs.declared.date.Gh.{Gh}
 use Rattle.synthesis.specs.declared.near_pole.PoleRow.{PoleRow}
 use Rattle.synthesis.specs.declared.lanes.Starts.{Starts}
-use Rattle.sums.specs.Recurrence.{Input, angle, coefficient, downward, dps, gc, gs, lit, next-quotient, pole-east, pole-x, pole-y, pole-z, power, ps, step, total, x-row, x-sum, y-row, y-sum, z-row, z-sum}
+use Rattle.sums.specs.Recurrence.{Input, angle, coefficient, downward, gc, gs, lit, next-quotient, pole-east, pole-x, pole-y, pole-z, power, ps, step, total, x-row, x-sum, y-row, y-sum, z-row, z-sum}
 use Rattle.sums.specs.Paths.{POLE-ORDERS}
 use Rattle.sums.specs.Arithmetic.{Pair, pair, rounded}
 
@@ -90,11 +90,19 @@ weight below then n m = cond (ltb m n) below then
 unfoldable pub laneStep : Input Float → ℕ → ℕ → Pair Float → Pair Float → Pair Float
 laneStep i n m q r = lowered (weight (i .cos-theta) (lit 1) n m) (weight (i .sin-theta) (lit 0) n m) (i .K n m) q r
 
--- what lane m holds in degree n. Its four lanes take their first step in the degree after the first of them
+-- two zeros: what the rows hold of a lane before its degree comes
+abbrev pub none : Pair Float
+none = pair (lit 0) (lit 0)
+
+-- what lane m holds in degree n: nothing below the degree where its four lanes begin, there its start value, and a step for each degree after it
 unfoldable pub lane : Input Float → ℕ → ℕ → Pair Float
-lane i zero m = start i m
-lane i (suc zero) m = cond (ltb 1 (4 * (m / 4) + 1)) (start i m) (laneStep i 1 m (start i m) (start i m))
-lane i (suc (suc n)) m = cond (ltb (suc (suc n)) (4 * (m / 4) + 1)) (start i m) (laneStep i (suc (suc n)) m (lane i (suc n) m) (lane i n m))
+lane i zero m = cond (ltb 0 (4 * (m / 4))) none (start i m)
+lane i (suc zero) m = cond (ltb 1 (4 * (m / 4))) none (laneStep i 1 m (start i m) none)
+lane i (suc (suc n)) m = cond (ltb (suc (suc n)) (4 * (m / 4))) none (cond (eqb (suc (suc n)) (4 * (m / 4))) (start i m) (laneStep i (suc (suc n)) m (lane i (suc n) m) (lane i n m)))
+
+-- what the step in degree n reads of degree n - 2: in degree 1 there is none
+abbrev pub twoBack : Input Float → ℕ → ℕ → Pair Float
+twoBack i n m = cond (ltb n 2) none (lane i (n - 2) m)
 
 -- the places of the list of weights: those of degree n begin at N-MAX - n
 abbrev pub W-LEN : ℕ
@@ -115,12 +123,12 @@ divisorAt n = kDivisor (squareAt n)
 abbrev pub nextK : List Float → List Float → List Float → ℕ → ℕ → Float
 nextK os sq ds n m = kOver (getD sq n nan) (getD os m nan) (getD ds n nan)
 
--- one order's terms of the three sums, o the order
+-- one order's terms of the three sums, o the order; x is the minus of the term of X
 unfoldable pub termOf : Float → Float → PDp → Float → Float → Float → Float → Xyz
 termOf o s r g h sin cos =
     let u = pair sin cos in
     record {
-      x = rounded .times (gc rounded g h u) (dps rounded s (qp r));
+      x = rounded .times (gc rounded g h u) (rounded .times s (r .dp));
       y = rounded .times (rounded .times o (gs rounded g h u)) (ps rounded s (qp r));
       z = rounded .times (gc rounded g h u) (ps rounded s (qp r));
     }
@@ -145,9 +153,9 @@ putTerm t k v = put (put (put t 0 k (v .x)) 1 k (v .y)) 2 k (v .z)
 abbrev pub put4Terms : List (List Float) → ℕ → Xyz → Xyz → Xyz → Xyz → List (List Float)
 put4Terms t k a b c d = putTerm (putTerm (putTerm (putTerm t k a) (k + 1) b) (k + 2) c) (k + 3) d
 
--- the first k terms, added up from 0; i is not read
+-- the first k terms, added up from 0, each x taken away; i is not read
 abbrev pub totals : Input Float → (ℕ → Xyz) → ℕ → Xyz
-totals i f k = record { x = total rounded i (λ m. f m .x) k; y = total rounded i (λ m. f m .y) k; z = total rounded i (λ m. f m .z) k }
+totals i f k = record { x = total rounded i (λ m. rounded .opp (f m .x)) k; y = total rounded i (λ m. f m .y) k; z = total rounded i (λ m. f m .z) k }
 
 -- the sums with one degree more
 unfoldable pub addDegree : Xyz → ℕ → Float → Xyz → Xyz
@@ -189,11 +197,11 @@ pub record Apart (q : Places) : Type 0 where
   pub prev2-cur : q .prev2 ≡ q .cur → ⊥
   pub prev1-prev2 : q .prev1 ≡ q .prev2 → ⊥
 
--- the lanes below m are at their start in all rows
+-- the lanes below m are at their start: the middle row holds it, the others nothing
 pub record Fresh (i : Input Float) (m : ℕ) (p d : List (List Float)) : Type 0 where
   pub p-sized : Sized M-LEN p
   pub d-sized : Sized M-LEN d
-  pub starts : (k l : ℕ) → k < 3 → l < m → cells p d k l ≡ start i l
+  pub starts : (k l : ℕ) → k < 3 → l < m → cells p d k l ≡ cond (eqb k 1) (start i l) none
 
 -- the terms of the orders from m on are stored
 pub record Above (i : Input Float) (m : ℕ) (t : List (List Float)) : Type 0 where
@@ -252,7 +260,7 @@ poleParts r w0 w1 s0 s1 u power =
     let v0 = termOf nil s0 (r .r0) (w0 .g) (w0 .h) nil one in
     let v1 = termOf one s1 (r .r1) (w1 .g) (w1 .h) (u .sin) (u .cos) in
     record {
-      x = rounded .plus (rounded .plus nil (v0 .x)) (v1 .x);
+      x = rounded .less (rounded .less nil (v0 .x)) (v1 .x);
       y = pole-east rounded power (gs rounded (w1 .g) (w1 .h) (pair (u .sin) (u .cos))) (r .q) s1;
       z = rounded .plus (rounded .plus nil (v0 .z)) (v1 .z);
     }

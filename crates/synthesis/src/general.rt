@@ -182,7 +182,7 @@ pub fn put_all_terms(
     }
 }
 
-// `count` terms from place i on, added up in that order.
+// `count` terms from place i on, added up in that order. Those of X are stored with their sign turned.
 pub fn add_terms(i: usize, count: usize, t: &[[f32; N_LEGENDRE]; 3]) -> Xyz
     requires { ⌜ i + count ≤ N-LEGENDRE ⌝ }
     ensures { λ r. ⌜ ((j : Input Float) → r ≡ totals j (λ m. cellXyz (now (t .entry)) (i + m)) count) ⌝ }
@@ -191,7 +191,7 @@ pub fn add_terms(i: usize, count: usize, t: &[[f32; N_LEGENDRE]; 3]) -> Xyz
     let mut y = 0.0f32;
     let mut z = 0.0f32;
     for m in 0..count {
-        x = x + t[0][i + m];
+        x = x - t[0][i + m];
         y = y + t[1][i + m];
         z = z + t[2][i + m];
     }
@@ -255,8 +255,11 @@ pub fn all_degrees(
     let d = start_values(cos_theta, sin_theta);
     let start_p = d.p;
     let start_dp = d.dp;
-    let mut p = [start_p, start_p, start_p];
-    let mut dp = [start_dp, start_dp, start_dp];
+    // Lanes begin in the row in the middle. The row before it is read once and multiplied by 0, so zeros
+    // do; the last is stored before it is read.
+    let none = [0.0f32; M_LEN];
+    let mut p = [none, start_p, none];
+    let mut dp = [none, start_dp, none];
     let mut t = [[0.0f32; N_LEGENDRE]; 3];
     put_all_terms(
         &cw,

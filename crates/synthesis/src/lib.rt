@@ -60,10 +60,13 @@ pub fn sum(
     ensures distance { λ r. ⌜ ((v : Xyz) → r ≡ SumAnswer.Sum v → SumClose (lent (colatitude .cos) (colatitude .sin) (longitude .sin) (longitude .cos) ratio offset (now (g .entry)) (now (h .entry)) (now («g_dot» .entry)) (now («h_dot» .entry))) v) ⌝ }
     ensures kept { λ _. ⌜ (now (g .exit) ≡ now (g .entry)) × (now (h .exit) ≡ now (h .entry)) × (now («g_dot» .exit) ≡ now («g_dot» .entry)) × (now («h_dot» .exit) ≡ now («h_dot» .entry)) ⌝ }
 {
+    // The lists are looked at while a processor still works on the numbers; what is told of the numbers
+    // comes first all the same.
+    let lists = check_lists(g, h, g_dot, h_dot);
     if let Verdict::Refused(k) = check_numbers(colatitude, longitude, ratio, offset) {
         return SumAnswer::Refused(k);
     }
-    if let Verdict::Refused(k) = check_lists(g, h, g_dot, h_dot) {
+    if let Verdict::Refused(k) = lists {
         return SumAnswer::Refused(k);
     }
     SumAnswer::Sum(synthesize_geocentric_xyz(

@@ -57,7 +57,8 @@ pub fn pole_row(
 }
 
 // A degree's parts of the sums: north and down over its orders, east of order 1 by Q. w0 and s0 are
-// order 0's coefficients and Schmidt factor, w1 and s1 order 1's, u the longitude's pair.
+// order 0's coefficients and Schmidt factor, w1 and s1 order 1's, u the longitude's pair. The terms of X
+// have their sign turned, so they are taken away.
 pub fn pole_parts(
     row: PoleRow,
     w0: Gh,
@@ -72,7 +73,7 @@ pub fn pole_parts(
     let v0 = term_of(0.0, s0, row.r0, w0, SinCos { sin: 0.0, cos: 1.0 });
     let v1 = term_of(1.0, s1, row.r1, w1, u);
     Xyz {
-        x: 0.0 + v0.x + v1.x,
+        x: 0.0 - v0.x - v1.x,
         y: a_over_r_n2 * (w1.g * u.sin - w1.h * u.cos) * row.q * s1,
         z: 0.0 + v0.z + v1.z,
     }

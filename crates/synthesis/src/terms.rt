@@ -14,12 +14,14 @@ ghost use lib.ListN.{length};
 ghost use Rattle.tables.specs.Degree.{M-LEN, N-COEFF, N-LEGENDRE};
 ghost use Rattle.synthesis.specs.Code.{put4Terms, putTerm, termAt, termOf};
 
-// An order's terms of the three sums of its degree, s its Schmidt factor and r its P.
+// An order's terms of the three sums of its degree, s its Schmidt factor and r its P. That of X has its
+// sign turned: the sum takes it away, so that no step has to turn a sign.
 pub fn term_of(order: f32, s: f32, r: PDp, w: Gh, u: SinCos) -> Xyz
     ensures { λ v. ⌜ v ≡ termOf order s r (w .g) (w .h) (u .sin) (u .cos) ⌝ }
 {
     let psn = s * r.p;
-    let dpsn = -s * r.dp;
+    // The minus of the source's `dpsn` is left to the sum.
+    let dpsn = s * r.dp;
     let g_c_h_s = w.g * u.cos + w.h * u.sin;
     let g_s_h_c = w.g * u.sin - w.h * u.cos;
     Xyz {

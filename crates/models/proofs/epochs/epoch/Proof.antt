@@ -1,12 +1,11 @@
--- `models::epochs::epoch` meets its contract. Each test of the code is one of the definition's, and where all pass, a u16
--- holds the year, the epoch year and the day. Assumes nothing.
+-- `models::epochs::epoch` meets its contract. Each test of the code is one of the definition's, that of the year by
+-- `years-served`, and where all pass, a u16 holds the year, the epoch year and the day. Assumes nothing.
 use mathlib.Core.Path.{_≡_, refl, sym, ap, _∙_}
 use mathlib.Core.Bool.{true, false}
 use mathlib.Core.Logic.{⊎-elim}
 use Prim.Native.Nat.{ℕ, _≤_, _<_, _^_}
 use native.Mathlib.Omega.{arith}
 use borrow.Author.Needs.{needs}
-use borrow.Author.Tests.{not-true, not-false}
 use lib.Dec.{T}
 use lib.IntN.{ℤ, pos, natAbs}
 use lib.Signed.{ltZ, nonNeg}
@@ -17,6 +16,7 @@ use Rattle.models.specs.Calendar.{daysInYear}
 use Rattle.models.specs.Epochs.{dayExists, epochYear, knownEpoch, offsetOf, naturalOffset, epochOffset, epochSays}
 use Rattle.models.specs.Signed.{fits-epoch}
 use Rattle.models.specs.Dated.{Dated, accepted, longest-year}
+use Rattle.models.proofs.Years.{years-served}
 use Rattle.models.proofs.epochs.epoch.Statement.{statement}
 use Rattle.models.proofs.epochs.epoch.Tie as tie
 
@@ -24,8 +24,11 @@ use Rattle.models.proofs.epochs.epoch.Tie as tie
 low : (c : tie.Start) → ltZ (toZ w32 (ofZ w32 (c .args .day-of-year))) (pos 1) ≡ ltZ (c .args .day-of-year) (pos 1)
 low c = rw (toZ-ofZ w32 (c .args .day-of-year) (c .fits .day-of-year))
 
+year-is : (s : tie.Start) → toZ w32 (ofZ w32 (s .args .year)) ≡ s .args .year
+year-is s = toZ-ofZ w32 (s .args .year) (s .fits .year)
+
 days : (c : tie.After-days-in-year) → c .days-in-year .result ≡ daysInYear (c .before .args .year)
-days c = c .days-in-year .ensures ∙ ap daysInYear (toZ-ofZ w32 (c .before .args .year) (c .before .fits .year))
+days c = c .days-in-year .ensures ∙ ap daysInYear (year-is (c .before))
 
 high : (c : tie.After-days-in-year) → ltZ (toZ w32 (c .days-in-year .result)) (toZ w32 (ofZ w32 (c .before .args .day-of-year))) ≡ ltZ (pos (daysInYear (c .before .args .year))) (c .before .args .day-of-year)
 high c =
@@ -33,16 +36,13 @@ high c =
     let h : daysInYear (s .args .year) < 2 ^ 31 = omega (arith, longest-year (s .args .year)) in
     rw (days c, toZ-ofZ w32 (s .args .day-of-year) (s .fits .day-of-year), toZ-pos w32 (daysInYear (s .args .year)) h)
 
-epoch-year : (c : tie.After-date-to-epoch-year) → toZ w32 (ofZ w32 (c .date-to-epoch-year .result)) ≡ epochYear (c .before .before .before .before .args .year)
+epoch-year : (c : tie.After-date-to-epoch-year) → toZ w32 (ofZ w32 (c .date-to-epoch-year .result)) ≡ epochYear (c .before .before .before .before .before .before .args .year)
 epoch-year c =
-    let s = c .before .before .before .before in
+    let s = c .before .before .before .before .before .before in
     let y = s .args .year in
-    rw (c .date-to-epoch-year .ensures, toZ-ofZ w32 y (s .fits .year), toZ-ofZ w32 (epochYear y) (fits-epoch y (s .fits .year)))
+    rw (c .date-to-epoch-year .ensures, year-is s, toZ-ofZ w32 (epochYear y) (fits-epoch y (s .fits .year)))
 
-known : (c : tie.After-known-epoch) → c .known-epoch .result ≡ knownEpoch (epochYear (c .before .before .before .before .before .args .year))
-known c = c .known-epoch .ensures ∙ ap knownEpoch (epoch-year (c .before))
-
--- ---- what each test that passed says
+-- ---- what each test says
 not-low : (c : tie.Else1) → ltZ (c .before .before .args .day-of-year) (pos 1) ≡ false
 not-low c =
     let h : ltZ (toZ w32 (ofZ w32 (c .before .before .args .day-of-year))) (pos 1) ≡ false = c .if1 .left in
@@ -51,8 +51,26 @@ not-low c =
 not-high : (c : tie.Else2) → ltZ (pos (daysInYear (c .before .before .before .args .year))) (c .before .before .before .args .day-of-year) ≡ false
 not-high c = sym (high (c .before .before)) ∙ c .if2 .left
 
-is-known : (c : tie.Else3) → knownEpoch (epochYear (c .before .before .before .before .before .before .args .year)) ≡ true
-is-known c = sym (known (c .before)) ∙ not-false _ (c .if3 .left)
+not-early : (c : tie.Else3) → ltZ (c .before .before .before .before .args .year) (pos 2020) ≡ false
+not-early c =
+    let s = c .before .before .before .before in
+    let h : ltZ (toZ w32 (ofZ w32 (s .args .year))) (pos 2020) ≡ false = c .if3 .left in
+    rw (year-is s) at h
+
+not-late : (c : tie.Else4) → ltZ (pos 2029) (c .before .before .before .before .before .args .year) ≡ false
+not-late c =
+    let s = c .before .before .before .before .before in
+    let h : ltZ (pos 2029) (toZ w32 (ofZ w32 (s .args .year))) ≡ false = c .if4 .left in
+    rw (year-is s) at h
+
+is-known : (c : tie.Else4) → knownEpoch (epochYear (c .before .before .before .before .before .args .year)) ≡ true
+is-known c = years-served _ ∙ rw (not-early (c .before), not-late c)
+
+-- the year is before the first one, or after the last
+not-known : (c : tie.Joined3) → knownEpoch (epochYear (c .before .before .before .before .args .year)) ≡ false
+not-known c =
+    let s = c .before .before .before .before in
+    years-served (s .args .year) ∙ ⊎-elim (λ t. rw (rw (year-is s) at (t .taken))) (λ t. rw (rw (year-is s) at (t .0 .left), rw (year-is s) at (t .1 .taken))) (c .if3 .came)
 
 days-in-year-requires : tie.Need-days-in-year-requires
 days-in-year-requires c κs = search needs
@@ -68,36 +86,33 @@ returns-2 : tie.Need-returns-2
 unfolding epochSays dayExists
 returns-2 c = simp (not-low (c .before), sym (high (c .before .before)) ∙ c .if2 .taken)
 
-date-to-epoch-year-requires : tie.Need-date-to-epoch-year-requires
-date-to-epoch-year-requires c κs = search needs
-
-known-epoch-requires : tie.Need-known-epoch-requires
-known-epoch-requires c κs = search needs
-
 returns-3 : tie.Need-returns-3
 unfolding epochSays dayExists
 returns-3 c =
-    let e = c .before .before .before in
-    simp (not-low (e .before), not-high e, sym (known (c .before)) ∙ not-true _ (c .if3 .taken)) refl
+    let e = c .before in
+    simp (not-low (e .before), not-high e, not-known c) refl
+
+date-to-epoch-year-requires : tie.Need-date-to-epoch-year-requires
+date-to-epoch-year-requires c κs = search needs
 
 -- ---- where every test passed
-abbrev start : tie.Else3 → tie.Start
+abbrev start : tie.After-date-to-epoch-year → tie.Start
 start c = c .before .before .before .before .before .before
 
-module _ (c : tie.Else3) where
+module _ (c : tie.After-date-to-epoch-year) where
   dates : Dated (start c .args .year) (start c .args .day-of-year) (epochOffset (start c .args .year) (start c .args .day-of-year))
   dates =
       let e = c .before .before .before in
-      accepted (start c .args .year) (start c .args .day-of-year) (not-low (e .before)) (not-high e) (is-known c)
+      accepted (start c .args .year) (start c .args .day-of-year) (not-low (e .before)) (not-high e) (is-known (c .before))
 
   year-word : toZ w32 (ofZ w32 (start c .args .year)) ≡ pos (dates .y)
-  year-word = toZ-ofZ w32 (start c .args .year) (start c .fits .year) ∙ dates .year-is
+  year-word = year-is (start c) ∙ dates .year-is
 
   day-word : toZ w32 (ofZ w32 (start c .args .day-of-year)) ≡ pos (dates .d)
   day-word = toZ-ofZ w32 (start c .args .day-of-year) (start c .fits .day-of-year) ∙ dates .day-is
 
-  epoch-word : toZ w32 (ofZ w32 (c .before .before .date-to-epoch-year .result)) ≡ pos (dates .ep)
-  epoch-word = epoch-year (c .before .before) ∙ dates .epoch-is
+  epoch-word : toZ w32 (ofZ w32 (c .date-to-epoch-year .result)) ≡ pos (dates .ep)
+  epoch-word = epoch-year c ∙ dates .epoch-is
 
   epoch-below : dates .ep ≤ 2025
   epoch-below = ⊎-elim (λ h. omega arith) (λ h. omega arith) (dates .known)
@@ -129,7 +144,7 @@ returns-4 c =
     let n : e .before .before .days-in-year .result ≡ dates p .n = days (e .before .before) ∙ sym (dates p .days-are) in
     let o : c .years-since-epoch .result ≡ offsetOf (s .args .year) (epochYear (s .args .year)) (s .args .day-of-year) =
     c .years-since-epoch .ensures ∙ offset-at (year-word p) (epoch-word p) (day-word p) n ∙ sym (dates p .offset-is) in
-    simp (not-low (e .before), not-high e, is-known p, epoch-year (p .before .before), o)
+    simp (not-low (e .before), not-high e, is-known (p .before), epoch-year p, o)
 
 pub epoch-spec : {M : Type 1} → statement M
 epoch-spec =
@@ -139,9 +154,8 @@ epoch-spec =
     returns
     cast-if2
     returns-2
-    date-to-epoch-year-requires
-    known-epoch-requires
     returns-3
+    date-to-epoch-year-requires
     cast-years-since-epoch
     cast-years-since-epoch-2
     cast-years-since-epoch-3

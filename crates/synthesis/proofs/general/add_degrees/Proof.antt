@@ -1,9 +1,9 @@
 -- `synthesis::general::add_degrees` meets its contract: the degrees below n are added. Assumes nothing.
-use mathlib.Core.Path.{_≡_, _∙_}
+use mathlib.Core.Path.{_≡_, _∙_, ap}
 use Prim.Native.Nat.{_-_, _<_, _≤_}
 use native.Mathlib.Omega.{arith}
 use borrow.Author.Needs.{needs}
-use lib.Ieee.{Float}
+use lib.Ieee.{Float, binary32, mul}
 use Rattle.tables.specs.Degree.{M-LEN, N-MAX}
 use Rattle.exact.proofs.Wholes.{lit-zero}
 use Rattle.sums.specs.Arithmetic.{rounded}
@@ -58,7 +58,7 @@ loop-again c =
           let u = l .loop .inv .2 i e f in
           let z = l .loop .inv .0 in
           let hn : n < M-LEN = omega arith in (
-            rw e (more-power i n _ z (u .0)),
+            ap (λ (y : Float). mul binary32 (l .loop .power) y) e ∙ more-power i n _ z (u .0),
             c .add-degree .ensures ∙ more-degrees i n _ _ _ z (u .1) (u .0) (added i n _ _ _ z hn (x .legendre-index .ensures .0) f (a .add-terms .ensures i)),
           ),
     )

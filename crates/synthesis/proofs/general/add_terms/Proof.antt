@@ -1,10 +1,10 @@
--- `synthesis::general::add_terms` meets its contract. The first m terms are added. Assumes nothing.
-use mathlib.Core.Path.{_≡_}
-use Prim.Native.Nat.{_+_, _-_, _≤_}
+-- `synthesis::general::add_terms` meets its contract. The first m terms are added, those of X with their sign turned. Assumes nothing.
+use mathlib.Core.Path.{_≡_, refl}
+use Prim.Native.Nat.{ℕ, _+_, _-_, _≤_}
 use native.Mathlib.Omega.{arith}
 use native.Mathlib.Numerals.{add-one}
 use borrow.Author.Needs.{needs}
-use lib.Ieee.{Float}
+use lib.Ieee.{Float, binary32, sub}
 use Rattle.sums.specs.Arithmetic.{rounded}
 use Rattle.sums.specs.Recurrence.{Input, total}
 use Rattle.synthesis.specs.Code.{cell}
@@ -14,7 +14,7 @@ use Rattle.synthesis.proofs.general.add_terms.Tie as tie
 
 abbrev Inv-loop : tie.InvT-loop
 Inv-loop i count t x₀ y₀ z₀ m₀ x y z m =
-    (m ≤ count) × ((j : Input Float) → (x ≡ total rounded j (λ l. cell t 0 (i + l)) m) × (y ≡ total rounded j (λ l. cell t 1 (i + l)) m) × (z ≡ total rounded j (λ l. cell t 2 (i + l)) m))
+    (m ≤ count) × ((j : Input Float) → (x ≡ total rounded j (λ l. rounded .opp (cell t 0 (i + l))) m) × (y ≡ total rounded j (λ l. cell t 1 (i + l)) m) × (z ≡ total rounded j (λ l. cell t 2 (i + l)) m))
 
 abbrev μ-loop : tie.MeasureT-loop
 μ-loop i count t x₀ y₀ z₀ m₀ x y z m = count - m
@@ -65,11 +65,17 @@ add-m c = search needs
 loop-less : tie.Need-loop-less Inv-loop μ-loop
 loop-less c = search needs
 
+-- one term taken away, over variables
+one-less : (j : Input Float) (f : ℕ → Float) (m : ℕ) (x : Float) → x ≡ total rounded j (λ l. rounded .opp (f l)) m → sub binary32 x (f m) ≡ total rounded j (λ l. rounded .opp (f l)) (m + 1)
+unfolding total rounded sub
+one-less j f m x e = rw (add-one, e) refl
+
 loop-again : tie.Need-loop-again Inv-loop μ-loop
 unfolding total rounded
 loop-again c =
     let l = c .before .before .before .before in
-    (search needs, λ j. (rw (add-one, l .loop .inv .1 j .0), rw (add-one, l .loop .inv .1 j .1), rw (add-one, l .loop .inv .1 j .2)))
+    let a = l .before .args in
+    (search needs, λ j. (one-less j (λ k. cell (a .t .now) 0 (a .i + k)) (l .loop .m) (l .loop .x) (l .loop .inv .1 j .0), rw (add-one, l .loop .inv .1 j .1), rw (add-one, l .loop .inv .1 j .2)))
 
 returns : tie.Need-returns Inv-loop μ-loop
 returns c =

@@ -23,7 +23,7 @@ parts-are : (row : PoleRow) (w0 w1 : Gh) (s0 s1 : Float) (u : SinCos) (power : F
     → v1 ≡ termOf (ofBits binary32 0x3f800000) s1 (row .r1) (w1 .g) (w1 .h) (u .sin) (u .cos)
     → _≡_ {A = Xyz}
     (record {
-      x = add binary32 (add binary32 (ofBits binary32 0) (v0 .x)) (v1 .x);
+      x = sub binary32 (sub binary32 (ofBits binary32 0) (v0 .x)) (v1 .x);
       y = mul binary32 (mul binary32 (mul binary32 power (sub binary32 (mul binary32 (w1 .g) (u .sin)) (mul binary32 (w1 .h) (u .cos)))) (row .q)) s1;
       z = add binary32 (add binary32 (ofBits binary32 0) (v0 .z)) (v1 .z);
     })
