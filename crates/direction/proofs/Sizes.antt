@@ -16,7 +16,7 @@ use Rattle.float32.proofs.Bits.{float-back}
 use Rattle.trig.specs.Fixed.{stepOf, inUnits}
 use Rattle.direction.specs.Direction.{arcPart, arcOf, ratioOf, octantOf, digitsOf, placeOf, unitsAt}
 use Rattle.float32.proofs.Values.{powers, same, few, normal}
-use Rattle.trig.proofs.Entry.{unsigned, top-none}
+use Rattle.float32.proofs.Unsigned.{unsigned, top-none}
 use Rattle.direction.proofs.Arcs.{arc-none}
 use Rattle.direction.proofs.Quadrants.{octant-low, octant-high}
 
@@ -169,13 +169,6 @@ digits-some p h = go (ltb p 8388608) refl
     go : (t : Bool) → ltb p 8388608 ≡ t → 0 < cond t p (p % 8388608 + 8388608)
     go true e = h
     go false e = omega arith
-
-pub shift-fits : (m k : ℕ) → m < 16777216 → k < 32 → m * 2 ^ k < 72057594037927936
-shift-fits m k h l =
-    let a : 2 ^ k ≤ 2 ^ 31 = pow-le-pow-right (lit< tt) {i = k} {j = 31} (omega arith) in
-    let few : m ≤ 16777215 = omega arith in
-    let b : m * 2 ^ k ≤ 16777215 * 2147483648 = mul-le-mul few a in
-    omega arith
 
 -- ---- a finite float
 module _ (x : Float) (held : T (fits binary32 x)) (f : T (finite x)) where

@@ -10,7 +10,7 @@ use synthesis::Longitude;
 ghost use mathlib.Core.Path.{_≡_};
 ghost use Rattle.field.specs.Field.{asked, fieldSays};
 ghost use Rattle.degrees.specs.Degrees.{place, degreesSays};
-ghost use Rattle.allowance.specs.Allowance.{allowanceSays};
+ghost use Rattle.allowance.specs.Allowance.{allowanceSays, said};
 ghost use Rattle.ffi.specs.Told.{numberOf, result, entryPlace, yearsPlace, fieldFloats, errorFloats, allowanceFloats};
 
 #[no_mangle]
@@ -129,7 +129,7 @@ pub extern "C" fn njerumoy_allowance(
         cos: cos_lambda,
     };
     let day = Day { year, day_of_year };
-    match allowance::allowance(
+    let answer = allowance::allowance(
         height,
         latitude,
         longitude,
@@ -139,7 +139,22 @@ pub extern "C" fn njerumoy_allowance(
         h,
         g_dot,
         h_dot,
-    ) {
+    );
+    tell_allowance(answer, allowances, entry, years)
+}
+
+// The allowances, and what a refusal of Field carries. A function of its own: to the check, a `match` costs the
+// more the more is lent beside it.
+fn tell_allowance(
+    answer: AllowanceAnswer,
+    allowances: &mut [f32; 3],
+    entry: &mut [usize; 2],
+    years: &mut [i32; 2],
+) -> u32
+    ensures { λ r. ⌜ (r ≡ numberOf (said answer)) × (now (allowances .exit) ≡ result allowanceFloats (now (allowances .entry)) (said answer))
+        × (now (entry .exit) ≡ entryPlace (now (entry .entry)) (said answer)) × (now (years .exit) ≡ yearsPlace (now (years .entry)) (said answer)) ⌝ }
+{
+    match answer {
         AllowanceAnswer::Allowance(v) => {
             *allowances = [v.x, v.y, v.z];
             0

@@ -4,7 +4,7 @@ use crate::refuse::note_line;
 use agency::ReadAnswer;
 use refusals::number;
 ghost use mathlib.Core.Path.{_≡_};
-ghost use Rattle.agency.specs.Cof.{lists-of, readOf};
+ghost use Rattle.agency.specs.Cof.{lists-of, readOf, said};
 ghost use Rattle.ffi.specs.Told.{numberOf, result, entryPlace, linePlace, whole};
 
 #[no_mangle]
@@ -24,7 +24,21 @@ pub extern "C" fn njerumoy_read_cof(
         × (now (entry .exit) ≡ entryPlace (now (entry .entry)) (s .says)) × (now (line .exit) ≡ linePlace (now (line .entry)) (s .says))) ⌝ }
     ensures kept { λ _. ⌜ now (text .exit) ≡ now (text .entry) ⌝ }
 {
-    match agency::read(text, g, h, g_dot, h_dot) {
+    let answer = agency::read(text, g, h, g_dot, h_dot);
+    tell_read(answer, epoch_year, entry, line)
+}
+
+// The file's epoch year, and what a refusal of the reader carries.
+fn tell_read(
+    answer: ReadAnswer,
+    epoch_year: &mut i32,
+    entry: &mut [usize; 2],
+    line: &mut usize,
+) -> u32
+    ensures { λ r. ⌜ (r ≡ numberOf (said answer)) × (now («epoch_year» .exit) ≡ result whole (now («epoch_year» .entry)) (said answer))
+        × (now (entry .exit) ≡ entryPlace (now (entry .entry)) (said answer)) × (now (line .exit) ≡ linePlace (now (line .entry)) (said answer)) ⌝ }
+{
+    match answer {
         ReadAnswer::Epoch(year) => {
             *epoch_year = year;
             0

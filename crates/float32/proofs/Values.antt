@@ -1,7 +1,7 @@
 -- What a bit pattern of binary32 is worth, as a fraction. Assumes nothing.
 use mathlib.Core.Path.{_≡_, refl, sym, ap, _∙_, subst}
 use Prim.Native.Nat.{ℕ, suc, _+_, _-_, _*_, _/_, _%_, _^_, _≤_, _<_}
-use native.Mathlib.Nat.{le-of-eq, le-of-mul-le-mul-right, pow-suc, mul-one, zero-add}
+use native.Mathlib.Nat.{le-of-eq, le-of-mul-le-mul-right, mul-le-mul, pow-le-pow-right, pow-suc, mul-one, zero-add}
 use native.Mathlib.Omega.{arith}
 use mathlib.Core.Bool.{Bool, true, false, not}
 use lib.Dec.{ltb, lit≤, lit<}
@@ -25,6 +25,14 @@ rescale (fin t m k) s a c a' c' h e v = (v .0, cancel _ _ c h (swap (m * up k) c
 
 pub powers : (i k n : ℕ) → i + k ≡ n → 2 ^ i * 2 ^ k ≡ 2 ^ n
 powers i k n e = sym (pow-add 2 i k) ∙ ap (λ (x : ℕ). 2 ^ x) e
+
+-- 24 digits and fewer than 32 places more
+pub shift-fits : (m k : ℕ) → m < 16777216 → k < 32 → m * 2 ^ k < 72057594037927936
+shift-fits m k h l =
+    let a : 2 ^ k ≤ 2 ^ 31 = pow-le-pow-right (lit< tt) {i = k} {j = 31} (omega arith) in
+    let few : m ≤ 16777215 = omega arith in
+    let b : m * 2 ^ k ≤ 16777215 * 2147483648 = mul-le-mul few a in
+    omega arith
 
 -- ---- one value, two fractions
 pub same : (x : Float) (s : Bool) (a d b c : ℕ) → HasValue x s a d → HasValue x s b c → a * c ≡ b * d

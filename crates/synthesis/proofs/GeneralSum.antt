@@ -159,7 +159,7 @@ rows-turn i m n p d q z w =
     }
 
 -- four lanes stored, and the degree is done
-pub rows-next : (i : Input Float) (m n : ℕ) (p d p' d' : List (List Float)) (q q' : Places) (r : Four) → 0 < n → m + 3 < M-LEN
+rows-next : (i : Input Float) (m n : ℕ) (p d p' d' : List (List Float)) (q q' : Places) (r : Four) → 0 < n → m + 3 < M-LEN
     → r .r0 ≡ pdp (lane i n m) → r .r1 ≡ pdp (lane i n (m + 1)) → r .r2 ≡ pdp (lane i n (m + 2)) → r .r3 ≡ pdp (lane i n (m + 3))
     → p' ≡ put4 p (q .cur) m (r .r0 .p) (r .r1 .p) (r .r2 .p) (r .r3 .p) → d' ≡ put4 d (q .cur) m (r .r0 .dp) (r .r1 .dp) (r .r2 .dp) (r .r3 .dp) → q' ≡ rotated q
     → Rows i m n m p d q → Rows i m (n + 1) m p' d' q'
@@ -269,57 +269,72 @@ module _ (i : Input Float) (cw sw ss g h g-dot h-dot : List Float) (time : Float
   term-of m k r v ek er ev hm = ev ∙ term-is m k r hm ek er
 
   -- one degree more of the four orders
-  module _ (m k j : ℕ) (a b r : Four) (f : FourK) (hm : 4 * (m / 4) ≡ m) (l : m < n) (h3 : m + 3 < N-MAX) (ek : k ≡ place n m) (ej : j + n ≡ m + N-MAX) (C : Carried i m n a f)
-      (b0 : b .r0 ≡ pdp (twoBack i n m))
-      (b1 : b .r1 ≡ pdp (twoBack i n (m + 1)))
-      (b2 : b .r2 ≡ pdp (twoBack i n (m + 2)))
-      (b3 : b .r3 ≡ pdp (twoBack i n (m + 3)))
-      (e0 : r .r0 ≡ loweredAt j (f .k0) cw sw (a .r0) (b .r0))
-      (e1 : r .r1 ≡ loweredAt (j + 1) (f .k1) cw sw (a .r1) (b .r1))
-      (e2 : r .r2 ≡ loweredAt (j + 2) (f .k2) cw sw (a .r2) (b .r2))
-      (e3 : r .r3 ≡ loweredAt (j + 3) (f .k3) cw sw (a .r3) (b .r3)) where
-    pub r0-is : r .r0 ≡ pdp (lane i n m)
-    r0-is = lane-is m j (f .k0) (a .r0) (b .r0) (r .r0) (omega arith) ej (omega arith) (C .k0) (C .a0) b0 e0
+  module _ (m k j : ℕ) (a b r : Four) (f : FourK) (p d : List (List Float)) (q : Places) (hm : 4 * (m / 4) ≡ m) (l : m < n) (h3 : m + 3 < N-MAX) (ek : k ≡ place n m) (ej : j + n ≡ m + N-MAX)
+      (C : Carried i m n a f) (R : Rows i m n m p d q)
+      (eb : (b .r0 ≡ pdp (cells p d (q .prev2) m)) × (b .r1 ≡ pdp (cells p d (q .prev2) (m + 1))) × (b .r2 ≡ pdp (cells p d (q .prev2) (m + 2))) × (b .r3 ≡ pdp (cells p d (q .prev2) (m + 3))))
+      (er : (r .r0 ≡ loweredAt j (f .k0) cw sw (a .r0) (b .r0)) × (r .r1 ≡ loweredAt (j + 1) (f .k1) cw sw (a .r1) (b .r1))
+      × (r .r2 ≡ loweredAt (j + 2) (f .k2) cw sw (a .r2) (b .r2)) × (r .r3 ≡ loweredAt (j + 3) (f .k3) cw sw (a .r3) (b .r3))) where
+    -- of two degrees before, in the row that holds them
+    back : (o : ℕ) (x : PDp) → m ≤ o → o < m + 4 → x ≡ pdp (cells p d (q .prev2) o) → x ≡ pdp (twoBack i n o)
+    back o x h1 h2 e = e ∙ ap pdp (R .prev2 o h1 h2)
 
-    pub r1-is : r .r1 ≡ pdp (lane i n (m + 1))
-    r1-is = lane-is (m + 1) (j + 1) (f .k1) (a .r1) (b .r1) (r .r1) (omega arith) (omega arith) (omega arith) (C .k1) (C .a1) b1 e1
+    r0-is : r .r0 ≡ pdp (lane i n m)
+    r0-is = lane-is m j (f .k0) (a .r0) (b .r0) (r .r0) (omega arith) ej (omega arith) (C .k0) (C .a0) (back m (b .r0) (omega arith) (omega arith) (eb .0)) (er .0)
 
-    pub r2-is : r .r2 ≡ pdp (lane i n (m + 2))
-    r2-is = lane-is (m + 2) (j + 2) (f .k2) (a .r2) (b .r2) (r .r2) (omega arith) (omega arith) (omega arith) (C .k2) (C .a2) b2 e2
+    r1-is : r .r1 ≡ pdp (lane i n (m + 1))
+    r1-is = lane-is (m + 1) (j + 1) (f .k1) (a .r1) (b .r1) (r .r1) (omega arith) (omega arith) (omega arith) (C .k1) (C .a1) (back (m + 1) (b .r1) (omega arith) (omega arith) (eb .1)) (er .1)
 
-    pub r3-is : r .r3 ≡ pdp (lane i n (m + 3))
-    r3-is = lane-is (m + 3) (j + 3) (f .k3) (a .r3) (b .r3) (r .r3) (omega arith) (omega arith) (omega arith) (C .k3) (C .a3) b3 e3
+    r2-is : r .r2 ≡ pdp (lane i n (m + 2))
+    r2-is = lane-is (m + 2) (j + 2) (f .k2) (a .r2) (b .r2) (r .r2) (omega arith) (omega arith) (omega arith) (C .k2) (C .a2) (back (m + 2) (b .r2) (omega arith) (omega arith) (eb .2)) (er .2)
 
-    pub carried-on : (f' : FourK) → f' .k0 ≡ nextK os sq ds n m → f' .k1 ≡ nextK os sq ds n (m + 1) → f' .k2 ≡ nextK os sq ds n (m + 2) → f' .k3 ≡ nextK os sq ds n (m + 3) → Carried i m (n + 1) r f'
-    carried-on f' k0 k1 k2 k3 =
+    r3-is : r .r3 ≡ pdp (lane i n (m + 3))
+    r3-is = lane-is (m + 3) (j + 3) (f .k3) (a .r3) (b .r3) (r .r3) (omega arith) (omega arith) (omega arith) (C .k3) (C .a3) (back (m + 3) (b .r3) (omega arith) (omega arith) (eb .3)) (er .3)
+
+    -- the factors of the next degree, as the code makes them
+    abbrev pub NextFactors : FourK → Type 0
+    NextFactors f' = (f' .k0 ≡ nextK os sq ds n m) × (f' .k1 ≡ nextK os sq ds n (m + 1)) × (f' .k2 ≡ nextK os sq ds n (m + 2)) × (f' .k3 ≡ nextK os sq ds n (m + 3))
+
+    carried-on : (f' : FourK) → NextFactors f' → Carried i m (n + 1) r f'
+    carried-on f' e =
         let u : n + 1 - 1 ≡ n = omega arith in
         record {
           a0 = rw u r0-is;
           a1 = rw u r1-is;
           a2 = rw u r2-is;
           a3 = rw u r3-is;
-          k0 = factor-is m (f' .k0) (omega arith) k0;
-          k1 = factor-is (m + 1) (f' .k1) (omega arith) k1;
-          k2 = factor-is (m + 2) (f' .k2) (omega arith) k2;
-          k3 = factor-is (m + 3) (f' .k3) (omega arith) k3;
+          k0 = factor-is m (f' .k0) (omega arith) (e .0);
+          k1 = factor-is (m + 1) (f' .k1) (omega arith) (e .1);
+          k2 = factor-is (m + 2) (f' .k2) (omega arith) (e .2);
+          k3 = factor-is (m + 3) (f' .k3) (omega arith) (e .3);
         }
 
-    pub stored : (v : FourXyz) (t : List (List Float))
-        → v .v0 ≡ termAt m k (r .r0) ss g h g-dot h-dot time os sin cos
-        → v .v1 ≡ termAt (m + 1) (k + 1) (r .r1) ss g h g-dot h-dot time os sin cos
-        → v .v2 ≡ termAt (m + 2) (k + 2) (r .r2) ss g h g-dot h-dot time os sin cos
-        → v .v3 ≡ termAt (m + 3) (k + 3) (r .r3) ss g h g-dot h-dot time os sin cos
-        → Block i m n m t → Block i m (n + 1) m (put4Terms t k (v .v0) (v .v1) (v .v2) (v .v3))
-    stored v t t0 t1 t2 t3 w =
+    -- the terms of the degree, as the code makes them
+    abbrev pub Made : FourXyz → Type 0
+    Made v = (v .v0 ≡ termAt m k (r .r0) ss g h g-dot h-dot time os sin cos) × (v .v1 ≡ termAt (m + 1) (k + 1) (r .r1) ss g h g-dot h-dot time os sin cos)
+        × (v .v2 ≡ termAt (m + 2) (k + 2) (r .r2) ss g h g-dot h-dot time os sin cos) × (v .v3 ≡ termAt (m + 3) (k + 3) (r .r3) ss g h g-dot h-dot time os sin cos)
+
+    stored : (v : FourXyz) (t : List (List Float)) → Made v → Block i m n m t → Block i m (n + 1) m (put4Terms t k (v .v0) (v .v1) (v .v2) (v .v3))
+    stored v t e w =
         let k1 : k + 1 ≡ place n (m + 1) = omega arith in
         let k2 : k + 2 ≡ place n (m + 2) = omega arith in
         let k3 : k + 3 ≡ place n (m + 3) = omega arith in
         let s = most n hn in
         block-next i m n _
-        (block-put i m n (m + 3) (m + 4) (k + 3) _ (v .v3) (omega arith) (omega arith) (omega arith) k3 (omega (arith, s, ek)) (term-of (m + 3) (k + 3) (r .r3) (v .v3) k3 r3-is t3)
-        (block-put i m n (m + 2) (m + 3) (k + 2) _ (v .v2) (omega arith) (omega arith) (omega arith) k2 (omega (arith, s, ek)) (term-of (m + 2) (k + 2) (r .r2) (v .v2) k2 r2-is t2)
-        (block-put i m n (m + 1) (m + 2) (k + 1) _ (v .v1) (omega arith) (omega arith) (omega arith) k1 (omega (arith, s, ek)) (term-of (m + 1) (k + 1) (r .r1) (v .v1) k1 r1-is t1)
-        (block-put i m n m (m + 1) k t (v .v0) (omega arith) (omega arith) refl ek (omega (arith, s, ek)) (term-of m k (r .r0) (v .v0) ek r0-is t0) w))))
+        (block-put i m n (m + 3) (m + 4) (k + 3) _ (v .v3) (omega arith) (omega arith) (omega arith) k3 (omega (arith, s, ek)) (term-of (m + 3) (k + 3) (r .r3) (v .v3) k3 r3-is (e .3))
+        (block-put i m n (m + 2) (m + 3) (k + 2) _ (v .v2) (omega arith) (omega arith) (omega arith) k2 (omega (arith, s, ek)) (term-of (m + 2) (k + 2) (r .r2) (v .v2) k2 r2-is (e .2))
+        (block-put i m n (m + 1) (m + 2) (k + 1) _ (v .v1) (omega arith) (omega arith) (omega arith) k1 (omega (arith, s, ek)) (term-of (m + 1) (k + 1) (r .r1) (v .v1) k1 r1-is (e .1))
+        (block-put i m n m (m + 1) k t (v .v0) (omega arith) (omega arith) refl ek (omega (arith, s, ek)) (term-of m k (r .r0) (v .v0) ek r0-is (e .0)) w))))
+
+    -- what is carried, the rows and the terms, after that degree
+    pub degree-on : (f' : FourK) (v : FourXyz) (p' d' : List (List Float)) (q' : Places) (t t' : List (List Float)) → NextFactors f'
+        → (p' ≡ put4 p (q .cur) m (r .r0 .p) (r .r1 .p) (r .r2 .p) (r .r3 .p)) × (d' ≡ put4 d (q .cur) m (r .r0 .dp) (r .r1 .dp) (r .r2 .dp) (r .r3 .dp)) → q' ≡ rotated q
+        → Made v → t' ≡ put4Terms t k (v .v0) (v .v1) (v .v2) (v .v3) → Block i m n m t
+        → Carried i m (n + 1) r f' × Rows i m (n + 1) m p' d' q' × Block i m (n + 1) m t'
+    degree-on f' v p' d' q' t t' ek' ep eq ev et B = (
+      carried-on f' ek',
+      rows-next i m n p d p' d' q q' r z (omega arith) r0-is r1-is r2-is r3-is (ep .0) (ep .1) eq R,
+      rw et (stored v t ev B),
+    )
 
   -- the order that is the degree, where four lanes begin
   pub corner-is : (p d : List Float) (v : Xyz) → 4 * (n / 4) ≡ n → Started i p d → v ≡ termAt n (place n n) (pairAt p d n) ss g h g-dot h-dot time os sin cos → v ≡ laneTerms i n n

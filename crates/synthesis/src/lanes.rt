@@ -133,6 +133,14 @@ pub fn divisors() -> [f32; M_LEN]
     DIVISORS
 }
 
+// A lane after a step, a of degree n - 1 and b of degree n - 2; its weights are at place w.
+pub fn lower_lane(k: f32, w: usize, cw: &[f32; W_LEN], sw: &[f32; W_LEN], a: PDp, b: PDp) -> PDp
+    requires { ⌜ w < W-LEN ⌝ }
+    ensures { λ r. ⌜ r ≡ loweredAt w k (now (cw .entry)) (now (sw .entry)) a b ⌝ }
+{
+    lower_p_dp(k, cw[w], sw[w], a, b)
+}
+
 // Four lanes after a step, a of degree n - 1 and b of degree n - 2; their weights are from place w on.
 pub fn lower_four(
     k: FourK,
@@ -148,10 +156,10 @@ pub fn lower_four(
         × (r .r2 ≡ loweredAt (w + 2) (k .k2) (now (cw .entry)) (now (sw .entry)) (a .r2) (b .r2))
         × (r .r3 ≡ loweredAt (w + 3) (k .k3) (now (cw .entry)) (now (sw .entry)) (a .r3) (b .r3)) ⌝ }
 {
-    let r0 = lower_p_dp(k.k0, cw[w], sw[w], a.r0, b.r0);
-    let r1 = lower_p_dp(k.k1, cw[w + 1], sw[w + 1], a.r1, b.r1);
-    let r2 = lower_p_dp(k.k2, cw[w + 2], sw[w + 2], a.r2, b.r2);
-    let r3 = lower_p_dp(k.k3, cw[w + 3], sw[w + 3], a.r3, b.r3);
+    let r0 = lower_lane(k.k0, w, cw, sw, a.r0, b.r0);
+    let r1 = lower_lane(k.k1, w + 1, cw, sw, a.r1, b.r1);
+    let r2 = lower_lane(k.k2, w + 2, cw, sw, a.r2, b.r2);
+    let r3 = lower_lane(k.k3, w + 3, cw, sw, a.r3, b.r3);
     Four { r0, r1, r2, r3 }
 }
 

@@ -27,7 +27,8 @@ use Rattle.trig.proofs.Squares.{n-most}
 use Rattle.trig.proofs.Whole.{sine-at, cosine-at}
 use Rattle.trig.proofs.Small.{small-sine, small-cosine}
 use Rattle.trig.proofs.Turn.{above, lifts, lifted-most, lifted-same, Near, at-tiny, at-normal, at-large, y-range, turned-small, turned-90, turned-135, turned-180, turned-back}
-use Rattle.trig.proofs.Entry.{normal-most, unsigned, accepted-size, accepted-finite, accepted-bits, all-accepted}
+use Rattle.float32.proofs.Unsigned.{unsigned}
+use Rattle.trig.proofs.Entry.{normal-most, accepted-size, accepted-finite, accepted-bits, all-accepted}
 use Rattle.trig.proofs.OnCircle.{circle-above, circle-below}
 use Rattle.trig.proofs.Tested.{on-circle}
 

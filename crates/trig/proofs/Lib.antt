@@ -9,7 +9,7 @@ mod Ends
 mod Whole
 mod Small
 mod Turn
-pub mod Entry
+mod Entry
 mod Pythagoras
 mod Round
 mod OnCircle

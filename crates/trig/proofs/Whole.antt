@@ -17,13 +17,6 @@ use Rattle.float32.proofs.Values.{rescale, powers, pattern-up, few}
 use native.Mathlib.Nat.{div-mul-le-self, div-le-self, lt-div-mul-add, one-mul, zero-mul, zero-div}
 use borrow.Author.Tests.{ltb-true, ltb-false, leb-true, leb-false}
 
-pub shift-fits : (w k : ℕ) → w < 2 ^ 24 → k ≤ 23 → w * 2 ^ k < 2 ^ 64
-shift-fits w k h l =
-    let a : 2 ^ k ≤ 2 ^ 23 = pow-le-pow-right (lit< tt) l in
-    let few : w ≤ 16777215 = omega arith in
-    let b : w * 2 ^ k ≤ 16777215 * 2 ^ 23 = mul-le-mul few a in
-    omega arith
-
 pub step-fits : (z h n : ℕ) → z < 4294967296 → h ≤ 4294967296 → z / n * h < 2 ^ 64
 step-fits z h n a b =
     let q : z / n ≤ z = div-le-self z n in

@@ -26,7 +26,6 @@ fn step(z: u64, h: u64, n: u64) -> u64
     requires { ⌜ z < 4294967296 ⌝ }
     requires { ⌜ h ≤ 4294967296 ⌝ }
     requires { ⌜ 0 < n ⌝ }
-    requires { ⌜ n ≤ 132 ⌝ }
     ensures { λ r. ⌜ r ≡ stepOf 4294967296 1 n z h ⌝ }
     ensures { λ r. ⌜ r ≤ 4294967296 ⌝ }
 {

@@ -5,7 +5,8 @@ use native.Mathlib.Nat.{mul-pos}
 use lib.Dec.{lit≤}
 use lib.Pow.{pow-pos}
 use Rattle.direction.specs.Direction.{octantOf, digitsOf, placeOf}
-use Rattle.direction.proofs.Sizes.{fields, places, sizes, octant-at, octant-far, digits-some, shift-fits}
+use Rattle.float32.proofs.Values.{shift-fits}
+use Rattle.direction.proofs.Sizes.{fields, places, sizes, octant-at, octant-far, digits-some}
 use borrow.Author.Needs.{needs}
 use Rattle.direction.proofs.arc.octant.Statement.{statement}
 use Rattle.direction.proofs.arc.octant.Tie as tie

@@ -1,7 +1,7 @@
 -- `direction::arc::widened` meets its contract. Assumes nothing.
 use native.Mathlib.Nat.{mod-eq-of-lt, lt-of-lt-of-le}
 use lib.Dec.{lit≤}
-use Rattle.direction.proofs.Sizes.{shift-fits}
+use Rattle.float32.proofs.Values.{shift-fits}
 use borrow.Author.Needs.{needs}
 use Rattle.direction.proofs.arc.widened.Statement.{statement}
 use Rattle.direction.proofs.arc.widened.Tie as tie

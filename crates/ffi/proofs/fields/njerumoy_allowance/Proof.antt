@@ -1,14 +1,11 @@
 -- `ffi::fields::njerumoy_allowance` meets its contract. Assumes nothing.
-use mathlib.Core.Path.{_≡_, refl, sym, ap, _∙_}
+use mathlib.Core.Path.{_≡_, refl}
 use mir.Syntax.{w32}
 use mir.ValLaws.{toZ-ofZ}
 use denote.Ref.{now}
 use borrow.Author.Needs.{needs}
 use Rattle.field.specs.Field.{asked}
 use Rattle.allowance.specs.Allowance.{allowanceSays, said}
-use Rattle.ffi.specs.Told.{allowanceFloats}
-use Rattle.ffi.proofs.Refused.{number-refused, kept-refused, entry-refused, years-refused}
-use Rattle.ffi.proofs.Answered.{number-answered, written, entry-answered, years-answered}
 use Rattle.ffi.proofs.fields.njerumoy_allowance.Statement.{statement}
 use Rattle.ffi.proofs.fields.njerumoy_allowance.Tie as tie
 
@@ -24,45 +21,11 @@ says c =
 allowance-requires : tie.Need-allowance-requires
 allowance-requires c κs = search needs
 
-enum-known-v : tie.Need-enum-known-v
-enum-known-v c = search needs
-
-enum-known-k : tie.Need-enum-known-k
-enum-known-k c = search needs
-
-note-entry-requires : tie.Need-note-entry-requires
-note-entry-requires c κs = search needs
-
-note-years-requires : tie.Need-note-years-requires
-note-years-requires c κs = search needs
-
-number-requires : tie.Need-number-requires
-number-requires c κs = search needs
+tell-allowance-requires : tie.Need-tell-allowance-requires
+tell-allowance-requires c κs = search needs
 
 returns : tie.Need-returns
-returns c =
-    let k = c .before .before in
-    let e = sym (ap said (k .v .given .1)) ∙ says (k .before .before) in
-    ((number-answered _ _ e, written _ _ e allowanceFloats _, entry-answered _ _ e _, years-answered _ _ e _), (refl, refl, refl, refl))
-
-returns-2 : tie.Need-returns-2
-returns-2 c =
-    let y = c .before in
-    let n = y .before .before in
-    let k = n .before .before .before in
-    let r = k .k .given .0 .0 in
-    let e = sym (ap said (k .k .given .1)) ∙ says (k .before .before) in
-    ((c .number .ensures ∙ number-refused r _ e, kept-refused r _ e allowanceFloats _, n .note-entry .ensures ∙ entry-refused r _ e _, y .note-years .ensures ∙ years-refused r _ e _), (refl, refl, refl, refl))
+returns c = (rw (says (c .before .before .before .before)) at (c .tell-allowance .ensures), (refl, refl, refl, refl))
 
 pub njerumoy-allowance-spec : {M : Type 1} → statement M
-njerumoy-allowance-spec =
-    tie.close
-    (tie.spec
-    allowance-requires
-    enum-known-v
-    enum-known-k
-    note-entry-requires
-    note-years-requires
-    number-requires
-    returns
-    returns-2)
+njerumoy-allowance-spec = tie.close (tie.spec allowance-requires tell-allowance-requires returns)

@@ -1,5 +1,5 @@
 -- `synthesis::general::four_orders` meets its contract. The loop goes on from what it begins with: the degrees below n are stored. Assumes nothing.
-use mathlib.Core.Path.{_≡_, _∙_, ap}
+use mathlib.Core.Path.{_≡_}
 use Prim.Native.Nat.{_+_, _-_, _<_, _≤_}
 use native.Mathlib.Omega.{arith}
 use borrow.Author.Needs.{needs}
@@ -7,11 +7,11 @@ use denote.Ref.{now}
 use lib.Ieee.{Float}
 use Rattle.tables.specs.Degree.{M-LEN, N-MAX}
 use Rattle.sums.specs.Recurrence.{Input}
-use Rattle.synthesis.specs.Code.{Apart, Given, Weighed, pdp}
+use Rattle.synthesis.specs.Code.{Apart, Given, Weighed}
 use Rattle.synthesis.proofs.PlaceSizes.{least, most}
 use Rattle.synthesis.proofs.RowsHold.{apart-rotate}
 use Rattle.synthesis.proofs.TermsHold.{Block, block-end, block-start}
-use Rattle.synthesis.proofs.GeneralSum.{Carried, Rows, carried-on, carried-start, places-apart, r0-is, r1-is, r2-is, r3-is, rows-end, rows-next, rows-start, stored}
+use Rattle.synthesis.proofs.GeneralSum.{Carried, Rows, carried-start, degree-on, places-apart, rows-end, rows-start}
 use Rattle.synthesis.proofs.general.four_orders.Statement.{statement}
 use Rattle.synthesis.proofs.general.four_orders.Tie as tie
 
@@ -104,11 +104,7 @@ loop-again c =
     let s = l .before .before .before .before .before .before .before .before in
     let a = s .args in
     let n = l .loop .n in
-    let h = l .loop .inv in
-    let v = u .lower-four .ensures in
-    let d = b .four-at2 .ensures in
-    let q = f .four-terms .ensures in
-    let k = x .next-k .ensures in (
+    let h = l .loop .inv in (
       search needs,
       omega (arith, w .loop-test .taken),
       rw (c .rotate-row-indices .ensures) (apart-rotate _ (h .2)),
@@ -118,20 +114,8 @@ loop-again c =
           let hn : n < M-LEN = w .loop-test .taken in
           let ek = e .legendre-index .ensures .0 in
           let ej : a .m + N-MAX - n + n ≡ a .m + N-MAX = omega (arith, hn) in
-          let g = t .1 .prev2 in
-          let b0 = d .0 ∙ ap pdp (g (a .m) (omega arith) (omega arith)) in
-          let b1 = d .1 ∙ ap pdp (g (a .m + 1) (omega arith) (omega arith)) in
-          let b2 = d .2 ∙ ap pdp (g (a .m + 2) (omega arith) (omega arith)) in
-          let b3 = d .3 ∙ ap pdp (g (a .m + 3) (omega arith) (omega arith)) in (
-            carried-on i _ _ _ _ _ _ _ _ _ _ _ _ _ n G W z hn (a .m) _ _ _ _ _ _ (s .pre .1 .1) (h .0) (s .pre .1 .0) ek ej (t .0) b0 b1 b2 b3 (v .0) (v .1) (v .2) (v .3) _ (k .0) (k .1) (k .2) (k .3),
-            rows-next i (a .m) n _ _ _ _ _ _ _ z (omega (arith, s .pre .1 .0))
-                (r0-is i _ _ _ _ _ _ _ _ _ _ _ _ _ n G W z hn (a .m) _ _ _ _ _ _ (s .pre .1 .1) (h .0) (s .pre .1 .0) ek ej (t .0) b0 b1 b2 b3 (v .0) (v .1) (v .2) (v .3))
-                (r1-is i _ _ _ _ _ _ _ _ _ _ _ _ _ n G W z hn (a .m) _ _ _ _ _ _ (s .pre .1 .1) (h .0) (s .pre .1 .0) ek ej (t .0) b0 b1 b2 b3 (v .0) (v .1) (v .2) (v .3))
-                (r2-is i _ _ _ _ _ _ _ _ _ _ _ _ _ n G W z hn (a .m) _ _ _ _ _ _ (s .pre .1 .1) (h .0) (s .pre .1 .0) ek ej (t .0) b0 b1 b2 b3 (v .0) (v .1) (v .2) (v .3))
-                (r3-is i _ _ _ _ _ _ _ _ _ _ _ _ _ n G W z hn (a .m) _ _ _ _ _ _ (s .pre .1 .1) (h .0) (s .pre .1 .0) ek ej (t .0) b0 b1 b2 b3 (v .0) (v .1) (v .2) (v .3))
-                (y .put-four .ensures .0) (y .put-four .ensures .1) (c .rotate-row-indices .ensures) (t .1),
-            rw (o .put-four-terms .ensures) (stored i _ _ _ _ _ _ _ _ _ _ _ _ _ n G W z hn (a .m) _ _ _ _ _ _ (s .pre .1 .1) (h .0) (s .pre .1 .0) ek ej (t .0) b0 b1 b2 b3 (v .0) (v .1) (v .2) (v .3) _ _ (q .0) (q .1) (q .2) (q .3) (t .2)),
-          ),
+          degree-on i _ _ _ _ _ _ _ _ _ _ _ _ _ n G W z hn (a .m) _ _ _ _ _ _ _ _ _ (s .pre .1 .1) (h .0) (s .pre .1 .0) ek ej (t .0) (t .1) (b .four-at2 .ensures) (u .lower-four .ensures)
+          _ _ _ _ _ _ _ (x .next-k .ensures) (y .put-four .ensures) (c .rotate-row-indices .ensures) (f .four-terms .ensures) (o .put-four-terms .ensures) (t .2),
     )
 
 returns : tie.Need-returns Inv-loop μ-loop
