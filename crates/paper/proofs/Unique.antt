@@ -3,6 +3,8 @@
 -- that a weaker contract is refused there; here all are listed.
 pub use Rattle.refusals.proofs.Unique.{number}
 pub use Rattle.float32.proofs.Unique.{is-finite, abs, over-cap, outside, off-circle, to-bits, from-bits}
+pub use Rattle.trig.proofs.Unique.{sine-and-cosine}
+pub use Rattle.direction.proofs.Unique.{direction}
 pub use Rattle.roots.proofs.Unique.{sqrt, sqrt-by-guess, square-root}
 pub use Rattle.tables.proofs.Unique.{schmidt-table, legendre-k, legendre-k-over}
 pub use Rattle.models.proofs.Unique.{known-epoch, epoch, error-model-by-epoch-year, error-model-listed}
@@ -11,8 +13,10 @@ pub use Rattle.synthesis.proofs.Unique.{sum}
 pub use Rattle.lists.proofs.Unique.{check-lists, check-caps, lists-long}
 pub use Rattle.text.proofs.Unique.{is-blank, first-line, first-word, read-decimal, read-number, read-whole}
 pub use Rattle.agency.proofs.Unique.{read}
-pub use Rattle.strengths.proofs.Unique.{h, f, declination-warning, declination-uncertainty, uncertainty-with, declination-uncertainty-listed, grid-variation}
+pub use Rattle.strengths.proofs.Unique.{h, f, declination, field-declination, inclination}
+pub use Rattle.strengths.proofs.Unique.{declination-warning, declination-uncertainty, uncertainty-with, declination-uncertainty-listed, grid-variation}
 pub use Rattle.field.proofs.Unique.{field, field-with, field-listed}
+pub use Rattle.degrees.proofs.Unique.{field-in-degrees}
 pub use Rattle.allowance.proofs.Unique.{allowance}
 pub use Rattle.ffi.proofs.Unique.{njerumoy-field, njerumoy-allowance, njerumoy-sum, njerumoy-epoch, njerumoy-horizontal, njerumoy-total}
 pub use Rattle.ffi.proofs.Unique.{njerumoy-zone, njerumoy-declination-uncertainty, njerumoy-grid-variation, njerumoy-square-root, njerumoy-read-cof}

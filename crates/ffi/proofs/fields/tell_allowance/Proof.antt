@@ -25,8 +25,9 @@ number-requires c κs = search needs
 
 returns : tie.Need-returns
 returns c =
-    let e = sym (ap said (c .before .before .answer .given .1)) in
-    (number-answered _ _ e, written _ _ e allowanceFloats _, entry-answered _ _ e _, years-answered _ _ e _)
+    let y = c .before .before in
+    let e = sym (ap said (y .answer .given .1)) in
+    (number-answered _ _ e, written _ _ e allowanceFloats (y .before .before .args .allowances .now), entry-answered _ _ e _, years-answered _ _ e _)
 
 returns-2 : tie.Need-returns-2
 returns-2 c =

@@ -31,7 +31,7 @@ returns c =
     let z = y .answer .given .0 .0 in
     let e = sym (ap said (y .answer .given .1)) in
     let n = toZ-ofZ w32 z (record { sfits = c .known-told .given .0 .1 }) in
-    (number-answered _ _ e, n ∙ written _ _ e whole _, entry-answered _ _ e _, line-answered _ _ e _)
+    (number-answered _ _ e, n ∙ written _ _ e whole (y .before .before .args .epoch-year .now), entry-answered _ _ e _, line-answered _ _ e _)
 
 returns-2 : tie.Need-returns-2
 returns-2 c =

@@ -25,8 +25,10 @@ number-requires c κs = search needs
 
 returns : tie.Need-returns
 returns c =
-    let e = sym (ap said (c .before .before .before .before .answer .given .1)) in
-    (number-answered _ _ e, written _ _ e fieldFloats _, written _ _ e errorFloats _, entry-answered _ _ e _, years-answered _ _ e _)
+    let y = c .before .before .before .before in
+    let a = y .before .before .args in
+    let e = sym (ap said (y .answer .given .1)) in
+    (number-answered _ _ e, written _ _ e fieldFloats (a .xyz .now), written _ _ e errorFloats (a .errors .now), entry-answered _ _ e _, years-answered _ _ e _)
 
 returns-2 : tie.Need-returns-2
 returns-2 c =

@@ -104,7 +104,8 @@ loop-again c =
     let s = l .before .before .before .before .before .before .before .before in
     let a = s .args in
     let n = l .loop .n in
-    let h = l .loop .inv in (
+    let h = l .loop .inv in
+    let v = u .lower-four .ensures in (
       search needs,
       omega (arith, w .loop-test .taken),
       rw (c .rotate-row-indices .ensures) (apart-rotate _ (h .2)),
@@ -114,7 +115,7 @@ loop-again c =
           let hn : n < M-LEN = w .loop-test .taken in
           let ek = e .legendre-index .ensures .0 in
           let ej : a .m + N-MAX - n + n ≡ a .m + N-MAX = omega (arith, hn) in
-          degree-on i _ _ _ _ _ _ _ _ _ _ _ _ _ n G W z hn (a .m) _ _ _ _ _ _ _ _ _ (s .pre .1 .1) (h .0) (s .pre .1 .0) ek ej (t .0) (t .1) (b .four-at2 .ensures) (u .lower-four .ensures)
+          degree-on i _ _ _ _ _ _ _ _ _ _ _ _ _ n G W z hn (a .m) _ _ _ _ _ _ _ _ _ (s .pre .1 .1) (h .0) (s .pre .1 .0) ek ej (t .0) (t .1) (b .four-at2 .ensures) (v .0, v .1, v .2, v .3)
           _ _ _ _ _ _ _ (x .next-k .ensures) (y .put-four .ensures) (c .rotate-row-indices .ensures) (f .four-terms .ensures) (o .put-four-terms .ensures) (t .2),
     )
 
