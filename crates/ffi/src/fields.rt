@@ -143,8 +143,7 @@ pub extern "C" fn njerumoy_allowance(
     tell_allowance(answer, allowances, entry, years)
 }
 
-// The allowances, and what a refusal of Field carries. A function of its own: to the check, a `match` costs the
-// more the more is lent beside it.
+// The allowances, and what a refusal of Field carries.
 fn tell_allowance(
     answer: AllowanceAnswer,
     allowances: &mut [f32; 3],
