@@ -148,6 +148,12 @@ static double upward(float bound) {
     return (double)(below + ((double)below < hundredths)) / 100.0;
 }
 
+/* Two digits after the point would show what is next to due south as -180.00, a second name for it. */
+static double one_south(float variation) {
+    const double deg = (double)variation;
+    return deg < -179.995 ? deg + 360.0 : deg;
+}
+
 static void print(const struct njerumoy_set *set, const struct shown *s) {
     const char *const zones[] = {"none", "blackout", "caution"};
     printf("X  %9.1f nT  +- %.0f\n", (double)s->xyz[0], (double)s->errors[NJERUMOY_ERROR_X]);
@@ -158,7 +164,7 @@ static void print(const struct njerumoy_set *set, const struct shown *s) {
     printf("D  %9.2f deg +- %.2f\n", (double)s->d, (double)s->d_uncertainty);
     printf("I  %9.2f deg +- %.2f\n", (double)s->i, (double)s->errors[NJERUMOY_ERROR_INCLINATION]);
     printf("zone   %s\n", zones[s->zone]);
-    if (s->given) printf("grid   %.2f deg\n", (double)s->variation);
+    if (s->given) printf("grid   %.2f deg\n", one_south(s->variation));
     printf("epoch  %d\n", (int)set->epoch_year);
     printf("sums   X, Y, Z within %.2f, %.2f, %.2f nT of the exact sums\n", upward(s->allowances[0]),
            upward(s->allowances[1]), upward(s->allowances[2]));

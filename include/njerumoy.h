@@ -300,8 +300,8 @@ uint32_t njerumoy_declination_uncertainty_listed(float x, float y, float z, int3
                                                  size_t records_length, float *uncertainty);
 
 /* Grid variation, for the charts of the polar regions: declination minus longitude from 55 degrees
- * north on, declination plus longitude from 55 degrees south on, brought to -180 to 180. Elsewhere
- * there is none.
+ * north on, declination plus longitude from 55 degrees south on, brought above -180 and up to 180 by
+ * a whole turn at most. Due south is 180 and never -180. Elsewhere there is none.
  *
  * given         1 where there is one, 0 where there is none
  * variation     written only where there is one

@@ -271,6 +271,25 @@ static void test_strengths(void) {
     CHECK(njerumoy_declination_uncertainty(NAN, 1.0f, 1.0f, 2020, &u) == 12 && u == HELD);
 }
 
+/* Due south has one name; what is next to it keeps its sign. */
+static void test_due_south(void) {
+    const float next = 179.99998f; /* the f32 before 180 */
+    uint32_t given = 9;
+    float v = HELD;
+    CHECK(njerumoy_grid_variation(55.0f, 180.0f, 0.0f, &given, &v) == 0);
+    CHECK(given == 1 && v == 180.0f);
+    CHECK(njerumoy_grid_variation(-90.0f, -90.0f, -90.0f, &given, &v) == 0);
+    CHECK(given == 1 && v == 180.0f);
+    CHECK(njerumoy_grid_variation(55.0f, -180.0f, 0.0f, &given, &v) == 0);
+    CHECK(given == 1 && v == 180.0f);
+    CHECK(njerumoy_grid_variation(55.0f, next, 0.0f, &given, &v) == 0);
+    CHECK(given == 1 && v == -next);
+    CHECK(njerumoy_grid_variation(55.0f, 0.0f, -0.0f, &given, &v) == 0);
+    CHECK(given == 1 && v == 0.0f && signbit(v));
+    CHECK(njerumoy_grid_variation(55.0f, 180.0f, -180.0f, &given, &v) == 0);
+    CHECK(given == 1 && v == 0.0f && !signbit(v));
+}
+
 static void test_grid(void) {
     uint32_t given = 9;
     float v = HELD;
@@ -311,6 +330,7 @@ int main(void) {
     test_epoch();
     test_strengths();
     test_grid();
+    test_due_south();
     test_root();
     return outcome();
 }

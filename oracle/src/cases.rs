@@ -13,6 +13,7 @@ mod pairs;
 mod places;
 pub mod records;
 mod rng;
+mod south;
 mod strengths;
 mod values;
 
@@ -27,7 +28,8 @@ use std::io::{self, Write};
 use strengths::{STRENGTHS, WRAPS};
 use values::Pools;
 
-/// What a case asks for. `Bad` is a damaged line: most of them cannot be read.
+/// What a case asks for. `Bad` is a damaged line: most of them cannot be read. `South` is a line of GV
+/// next to due south or to zero.
 #[derive(Copy, Clone, Debug, PartialEq)]
 pub enum Kind {
     Sum,
@@ -46,6 +48,7 @@ pub enum Kind {
     Decl,
     Dir,
     Fdeg,
+    South,
 }
 
 /// Every kind of a list of all kinds, its name on the command line, and its share of a mixed list. A
@@ -63,15 +66,17 @@ pub const KINDS: [(Kind, &str, usize); 10] = [
     (Kind::Cof, "COF", 1),
 ];
 
-/// The kinds that come only where they are named: those with lists of error records, and those with
-/// angles in degrees. So a list of all kinds from a seed is what it was before there were such lines.
-pub const NAMED_KINDS: [(Kind, &str, usize); 6] = [
+/// The kinds that come only where they are named: those with lists of error records, those with
+/// angles in degrees, and those for due south. So a list of all kinds from a seed is what it was before
+/// there were such lines.
+pub const NAMED_KINDS: [(Kind, &str, usize); 7] = [
     (Kind::Flist, "FLIST", 60),
     (Kind::Ulist, "ULIST", 60),
     (Kind::Trig, "TRIG", 60),
     (Kind::Decl, "DECL", 60),
     (Kind::Dir, "DIR", 60),
     (Kind::Fdeg, "FDEG", 60),
+    (Kind::South, "SOUTH", 60),
 ];
 
 pub struct Generator {
@@ -206,6 +211,7 @@ impl Generator {
     fn named_case(&mut self, kind: Kind, out: &mut Vec<u8>) -> Case<'static> {
         match kind {
             Kind::Flist | Kind::Ulist => Case::Listed(self.listed(kind, out)),
+            Kind::South => self.south_case(),
             _ => Case::InDegrees(self.in_degrees(kind, out)),
         }
     }

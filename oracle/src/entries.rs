@@ -1,7 +1,7 @@
 //! The public entries, with document 01's refusals in document 01's order.
 use crate::field::{
-    field_at_offset, synthesize_geocentric_xyz, GeomagneticField, WarningZone, MAX_HEIGHT_KM,
-    MAX_HEIGHT_M, MAX_LATITUDE_DEG, MAX_LONGITUDE_DEG, MIN_HEIGHT_KM, MIN_HEIGHT_M,
+    self, field_at_offset, one_south, synthesize_geocentric_xyz, GeomagneticField, WarningZone,
+    MAX_HEIGHT_KM, MAX_HEIGHT_M, MAX_LATITUDE_DEG, MAX_LONGITUDE_DEG, MIN_HEIGHT_KM, MIN_HEIGHT_M,
     MIN_LATITUDE_DEG, MIN_LONGITUDE_DEG,
 };
 use crate::models::{
@@ -323,7 +323,8 @@ pub fn uncertainty_by(
     Ok(by_these.declination_uncertainty())
 }
 
-/// Grid variation, or `None` where there is none. Refusals 2, 3, 12, before "none".
+/// Grid variation, or `None` where there is none: the crate's, but by our rule for due south. Refusals
+/// 2, 3, 12, before "none".
 pub fn grid_variation(
     latitude_deg: f32,
     longitude_deg: f32,
@@ -338,11 +339,8 @@ pub fn grid_variation(
     if !within(declination_deg, -MAX_DECLINATION_DEG, MAX_DECLINATION_DEG) {
         return Err(Refusal::Unusable);
     }
-    Ok(crate::field::grid_variation(
-        latitude_deg,
-        longitude_deg,
-        declination_deg,
-    ))
+    let of_crate = field::grid_variation(latitude_deg, longitude_deg, declination_deg);
+    Ok(of_crate.map(one_south))
 }
 
 /// The square root: +inf gives +inf and -0 gives -0. Refusal 12 for NaN and below zero.

@@ -164,7 +164,7 @@ impl GeomagneticField {
     }
 }
 
-/// Grid variation [degrees], or `None` where |latitude| is below 55.
+/// The crate's grid variation [degrees], or `None` where |latitude| is below 55.
 pub fn grid_variation(latitude_deg: f32, longitude_deg: f32, declination_deg: f32) -> Option<f32> {
     let gv = if latitude_deg >= GRID_VARIATION_MIN_ABS_LATITUDE_DEG {
         declination_deg - longitude_deg
@@ -176,7 +176,7 @@ pub fn grid_variation(latitude_deg: f32, longitude_deg: f32, declination_deg: f3
     Some(wrap_to_180(gv))
 }
 
-/// Brings an angle to -180..=180, by one step at most.
+/// The crate's rule: brings an angle to -180..=180, by one step at most.
 pub fn wrap_to_180(deg: f32) -> f32 {
     if deg > 180.0 {
         deg - 360.0
@@ -184,5 +184,14 @@ pub fn wrap_to_180(deg: f32) -> f32 {
         deg + 360.0
     } else {
         deg
+    }
+}
+
+/// Our rule above it: due south has one name, so the crate's -180 is 180.
+pub fn one_south(wrapped_deg: f32) -> f32 {
+    if wrapped_deg == -180.0 {
+        180.0
+    } else {
+        wrapped_deg
     }
 }

@@ -16,6 +16,7 @@ pub mod records;
 pub mod replay;
 pub mod roots;
 pub mod sets;
+pub mod south;
 pub mod synthesis;
 #[cfg(test)]
 mod tests;

@@ -1,6 +1,6 @@
 //! The oracle: the Rust side of the comparison. README.md says how it is used.
 use oracle::cases::{write_cases, Kind, KINDS, NAMED_KINDS};
-use oracle::{published, replay, roots};
+use oracle::{published, replay, roots, south};
 use std::env;
 use std::fs;
 use std::io::{self, BufReader, BufWriter, ErrorKind};
@@ -10,8 +10,11 @@ const USAGE: &str = "\
 oracle answer                        answers the case lines of standard input
 oracle cases SEED COUNT [KIND ...]   writes COUNT case lines with their answers
                                      (SUM FIELD EPOCH STR GV SQRT BAD DEC WHOLE COF; none named: all
-                                     of these; and FLIST ULIST TRIG DECL DIR FDEG, where they are
-                                     named)
+                                     of these; and FLIST ULIST TRIG DECL DIR FDEG SOUTH, where they
+                                     are named)
+oracle south                         counts the answered GV lines of standard input, those that are
+                                     not as the crate has them, and of these those that are -180
+                                     there and 180 here
 oracle roots                         compares the root on all 2^31 patterns, two threads
 oracle published FILE                compares the published test values
 oracle rows FILE                     writes them as lines for the program replay";
@@ -68,6 +71,12 @@ fn main() -> ExitCode {
             ended(replay::answer(&mut input, &mut output))
         }
         ["cases", seed, count, ref names @ ..] => run_cases(seed, count, names),
+        ["south"] => {
+            let mut input = BufReader::with_capacity(BUFFER, io::stdin().lock());
+            ended(south::beside_crate(&mut input).map(|beside| {
+                println!("{} {} {}", beside.answers, beside.unlike, beside.south);
+            }))
+        }
         ["roots"] => match roots::compare_all() {
             0 => ExitCode::SUCCESS,
             _ => ExitCode::FAILURE,

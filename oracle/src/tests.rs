@@ -1,5 +1,5 @@
 //! Tests: the worked examples of document 01, the refusals and their order, the agency's file, lists
-//! of error records, angles in degrees, the line format, and the generated cases.
+//! of error records, angles in degrees, due south, the line format, and the generated cases.
 mod agency;
 mod angles;
 mod degrees;
@@ -9,6 +9,7 @@ mod listed;
 mod paper;
 mod records;
 mod refusals;
+mod south;
 mod words;
 
 use crate::entries::Set;

@@ -1,6 +1,6 @@
 //! The limits, where a small change could turn an answer.
 use crate::compare::{ask, declination, grid_variation_of, zone_of, Place};
-use crate::entries::Set;
+use crate::entries::{self, Set};
 use crate::field::{self, GeomagneticField};
 use world_magnetic_model::uom::si::magnetic_flux_density::nanotesla;
 use world_magnetic_model::GeomagneticField as Whole;
@@ -88,7 +88,8 @@ fn wrapped(set: &Set) {
         longitude,
         ..
     } = WRAPPED;
-    let mine = field::grid_variation(latitude, longitude, declination(&ours)).expect("a value");
+    let mine = entries::grid_variation(latitude, longitude, declination(&ours));
+    let mine = mine.expect("an answer").expect("a value");
     let theirs = grid_variation_of(&whole).expect("a value");
     println!(
         "grid variation at latitude {latitude:?}, longitude {longitude:?}, height 0, 2029 day 365: \

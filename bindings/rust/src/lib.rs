@@ -310,7 +310,8 @@ impl Field {
     }
 }
 
-/// Grid variation [degrees], or none between 55 degrees south and 55 north. Refusals 2, 3, 12.
+/// Grid variation [degrees], above -180 and up to 180, or none between 55 degrees south and 55 north.
+/// Due south is 180 and never -180. Refusals 2, 3, 12.
 #[inline]
 pub fn grid_variation(
     latitude_deg: f32,

@@ -230,6 +230,9 @@ fn strengths_and_zones() {
 #[test]
 fn grid_and_root() {
     assert_eq!(grid_variation(60.0, -100.0, 90.0), Ok(Some(-170.0)));
+    assert_eq!(grid_variation(60.0, 180.0, 0.0), Ok(Some(180.0)));
+    assert_eq!(grid_variation(-60.0, -180.0, 0.0), Ok(Some(180.0)));
+    assert_eq!(grid_variation(60.0, -180.0, 0.0), Ok(Some(180.0)));
     assert_eq!(grid_variation(54.0, 10.0, 30.0), Ok(None));
     assert_eq!(grid_variation(91.0, 0.0, 0.0), Err(Refusal::Latitude));
     assert_eq!(square_root(2.0), Ok(2.0f32.sqrt()));

@@ -1,19 +1,20 @@
--- A rounded fraction of size at most B is of size at most B, for a B that the format holds; nought rounds to a zero.
+-- A rounded fraction of size at most B is of size at most B, for a B that the format holds, and so is a rounded sum; nought rounds to a zero.
 use mathlib.Core.Path.{_≡_, refl, sym, ap, _∙_, subst}
-use Prim.Native.Nat.{ℕ, zero, suc, _*_, _^_, _≤_, _<_, zero-le}
-use native.Mathlib.Nat.{le-trans, le-of-eq, add-comm, mul-one, zero-mul, zero-lt-suc}
+use Prim.Native.Nat.{ℕ, zero, suc, _+_, _-_, _*_, _^_, _≤_, _<_, zero-le}
+use native.Mathlib.Nat.{le-trans, le-of-eq, add-comm, add-mul, mul-one, zero-mul, zero-lt-suc, mul-pos, mul-le-mul-right}
 use native.Mathlib.Omega.{arith}
-use mathlib.Core.Bool.{Bool, true, false, cond}
+use mathlib.Core.Bool.{Bool, true, false, cond, _&&_, Bool·beq}
 use lib.IntN.{ℤ, pos}
 use lib.Dec.{T, ltb, lit≤, lit<}
-use lib.Ieee.{Float, nan, inf, fin, binary32, up, down, odd, units, round, neg, le}
-use lib.Ieee.Fits.{round-is}
+use lib.Ieee.{Float, nan, inf, fin, binary32, up, down, odd, units, round, neg, sum, add, le}
+use lib.Ieee.Fits.{down-pos, round-is}
 use lib.Ieee.Order.{drop, kept, round-mono}
 use lib.Ieee.Scale.{finite, round-same}
 use Rattle.exact.specs.Exact.{own}
 use Rattle.exact.proofs.Sizes.{AtMost, size-between}
 
-abbrev Fit : ℕ → Float → Type 0
+-- finite, and of size at most B
+abbrev pub Fit : ℕ → Float → Type 0
 Fit B x = T (finite x) × AtMost B x
 
 odd-neg : (d q k l : ℕ) → odd d true q k l ≡ neg (odd d false q k l)
@@ -33,7 +34,7 @@ pub round-neg : (num den : ℕ) → round binary32 true num den ≡ neg (round b
 round-neg num den =
     round-is binary32 true num den ∙ units-neg (kept 24 (num * 2 ^ 149) den) (drop 24 (num * 2 ^ 149) den) ∙ ap neg (sym (round-is binary32 false num den))
 
-fit-neg : (B : ℕ) (x : Float) → Fit B x → Fit B (neg x)
+pub fit-neg : (B : ℕ) (x : Float) → Fit B x → Fit B (neg x)
 unfolding neg own
 fit-neg B nan h = h
 fit-neg B (inf s) h = absurd (h .0)
@@ -63,3 +64,31 @@ round-fit-pos B m e num den b D h =
 pub round-fit : (B m : ℕ) (e : ℤ) (s : Bool) (num den : ℕ) → Holds B m e → 0 < den → num ≤ B * den → Fit B (round binary32 s num den)
 round-fit B m e false num den b D h = round-fit-pos B m e num den b D h
 round-fit B m e true num den b D h = subst (λ (z : Float). Fit B z) (sym (round-neg num den)) (fit-neg B (round binary32 false num den) (round-fit-pos B m e num den b D h))
+
+-- the rounded sum of two floats of size at most B and C, for a B + C that the format holds
+module _ (B C m : ℕ) (e : ℤ) (b : Holds (B + C) m e) where
+  sum-fit : (s t : Bool) (x y c : ℕ) → 0 < c → x ≤ B * c → y ≤ C * c → Fit (B + C) (sum binary32 s x t y c)
+  unfolding sum
+  sum-fit s t x y c P h k = go (Bool·beq s t) (ltb x y)
+    where
+      rounded : (u : Bool) (n : ℕ) → n ≤ x + y → Fit (B + C) (round binary32 u n c)
+      rounded u n l = round-fit (B + C) m e u n c b P (omega (arith, add-mul B C c))
+
+      go : (p q : Bool) → Fit (B + C) (cond p (round binary32 s (x + y) c) (cond q (round binary32 t (y - x) c) (round binary32 (s && ltb y x) (x - y) c)))
+      go true q = rounded s (x + y) (omega arith)
+      go false true = rounded t (y - x) (omega arith)
+      go false false = rounded (s && ltb y x) (x - y) (omega arith)
+
+  most : (D : ℕ) (s : Bool) (i : ℕ) (k : ℤ) → Fit D (fin s i k) → i * up k ≤ D * down k
+  unfolding own
+  most D false i k f = omega (arith, f .1)
+  most D true i k f = omega (arith, f .1)
+
+  pub add-fit : (x y : Float) → Fit B x → Fit C y → Fit (B + C) (add binary32 x y)
+  unfolding add
+  add-fit nan y f g = absurd (f .0)
+  add-fit (inf s) y f g = absurd (f .0)
+  add-fit (fin s i k) nan f g = absurd (g .0)
+  add-fit (fin s i k) (inf t) f g = absurd (g .0)
+  add-fit (fin s i k) (fin t n d) f g =
+      sum-fit s t (i * up k * down d) (n * up d * down k) (down k * down d) (mul-pos (down-pos k) (down-pos d)) (omega (arith, mul-le-mul-right (down d) (most B s i k f))) (omega (arith, mul-le-mul-right (down k) (most C t n d g)))

@@ -1,5 +1,5 @@
--- The worked examples of document 01, P1 to P12, as one table with a single statement: `examples`. What a call says stands as its number, 0 for an
--- answer, and then the values, a float by its bits. The definitions are those that the contracts cite.
+-- The worked examples of document 01, P1 to P12, as one table with a single statement: `examples`. Wish 5 of document 02 changed the last answer of P10.
+-- What a call says stands as its number, 0 for an answer, and then the values, a float by its bits. The definitions are those that the contracts cite.
 use mathlib.Core.Path.{_≡_, refl, ap}
 use mathlib.Core.List.{List, [], _∷_, _++_, map}
 use Prim.Native.Nat.{ℕ}
@@ -25,7 +25,7 @@ use Rattle.synthesis.specs.Sum.{inputs, lent, numbersVerdict, offset-ok, ratio-
 use Rattle.sums.specs.Paths.{placed, small-sine}
 use Rattle.strengths.specs.declared.GeomagneticField.{GeomagneticField}
 use Rattle.strengths.specs.Strengths.{usable, hOf, strengthSays, Warning, blackout, caution, no-zone, zoneOf, zoneSays, clamped, uncertaintyWith, uncertaintySays}
-use Rattle.strengths.specs.Grid.{wrapped}
+use Rattle.strengths.specs.Grid.{crateWrapped, wrapped}
 use Rattle.field.specs.Field.{asked, placeVerdict, shownSays, datedSays, componentsSays, fieldWith, fieldSays}
 
 -- ---- what is said, as numbers
@@ -91,7 +91,7 @@ weak = field-of nought (ofBits binary32 0x44f9e000)
 abbrev none : GeomagneticField
 none = field-of nought nought
 
--- ---- the table: an example's number, what is said, what document 01 says
+-- ---- the table: an example's number, what is said, what the documents say
 pub record Example : Type 0 where
   pub number : ℕ
   pub said : List ℤ
@@ -136,7 +136,7 @@ others =
     p 10 (one-float (wrapped (ofBits binary32 0x433e0000))) (pos 0xc32a0000 ∷ []) ∷
     p 10 (one-float (wrapped (ofBits binary32 0xc33e0000))) (pos 0x432a0000 ∷ []) ∷
     p 10 (one-float (wrapped (ofBits binary32 0x43340000))) (pos 0x43340000 ∷ []) ∷
-    p 10 (one-float (wrapped (ofBits binary32 0xc3340000))) (pos 0xc3340000 ∷ []) ∷
+    p 10 (one-float (wrapped (ofBits binary32 0xc3340000))) (pos 0x43340000 ∷ []) ∷
     p 11 (row (λ v. []) (fieldSays (asked nought nought one nought one (pos 2020) zeros zeros zeros zeros) (pos 2025) (pos 1))) (pos 8 ∷ pos 2025 ∷ pos 2020 ∷ []) ∷
     p 12 (pos (getD schmidtBits (place 12 12) 0) ∷ pos (mended schmidtBits misses 12 12) ∷ []) (pos 0x3f11593d ∷ pos 0x3f11593f ∷ []) ∷
     []
@@ -145,7 +145,7 @@ pub table : List Example
 unfolding first second third others
 table = first ∷ second ∷ third ∷ others
 
--- an example that says what document 01 says
+-- an example that says what the documents say
 abbrev Met : Example → Type 0
 Met e = e .said ≡ e .asked-for
 
@@ -174,10 +174,10 @@ unfolding third ofBits toBits
 third-met = ap (row components) third-said
 
 others-met : map (λ (e : Example). e .said) others ≡ map (λ (e : Example). e .asked-for) others
-unfolding others listsVerdict entriesVerdict circle capped schmidtBits misses rounded epochSays dayExists epochYear knownEpoch offsetOf leapYear errorSays listedErrors figuresSays figuresOk figureOk usable hOf strengthSays zoneOf zoneSays clamped uncertaintySays uncertaintyWith sqrtOf wrapped fieldSays fieldWith componentsSays placeVerdict datedSays shownSays ofBits ofInt round sum add sub mul neg div lt le eq
+unfolding others listsVerdict entriesVerdict circle capped schmidtBits misses rounded epochSays dayExists epochYear knownEpoch offsetOf leapYear errorSays listedErrors figuresSays figuresOk figureOk usable hOf strengthSays zoneOf zoneSays clamped uncertaintySays uncertaintyWith sqrtOf wrapped crateWrapped fieldSays fieldWith componentsSays placeVerdict datedSays shownSays ofBits ofInt round sum add sub mul neg div lt le eq
 others-met = refl
 
--- every example says what document 01 says
+-- every example says what the documents say
 pub examples : map (λ (e : Example). e .said) table ≡ map (λ (e : Example). e .asked-for) table
 unfolding table
 examples = λ i. first-met i ∷ second-met i ∷ third-met i ∷ others-met i

@@ -4,4 +4,5 @@ pub mod StrengthSizes
 pub mod Angles
 pub mod AtZero
 pub mod Room
+pub mod DueSouth
 pub mod Unique

@@ -1,7 +1,7 @@
 // Grid variation: declination against the grid of the polar charts.
 use refusals::Refusal;
 ghost use mathlib.Core.Path.{_≡_};
-ghost use Rattle.strengths.specs.Grid.{wrapped, gridSaid, gridSays};
+ghost use Rattle.strengths.specs.Grid.{crateWrapped, wrapped, gridSaid, gridSays};
 
 const GRID_VARIATION_MIN_ABS_LATITUDE_DEG: f32 = 55.0;
 
@@ -11,9 +11,9 @@ pub enum GridAnswer {
     Refused(Refusal),
 }
 
-// One step at most: a difference of a declination and a longitude is never further out.
-fn wrap_to_180(deg: f32) -> f32
-    ensures { λ r. ⌜ r ≡ wrapped deg ⌝ }
+// The crate's own rule. One step at most: a difference of a declination and a longitude is never further out.
+fn crate_wrap_to_180(deg: f32) -> f32
+    ensures { λ r. ⌜ r ≡ crateWrapped deg ⌝ }
 {
     if deg > 180.0 {
         deg - 360.0
@@ -22,6 +22,14 @@ fn wrap_to_180(deg: f32) -> f32
     } else {
         deg
     }
+}
+
+// Due south has one name: two crews wrote -180 and 180 for one grid line.
+fn wrap_to_180(deg: f32) -> f32
+    ensures { λ r. ⌜ r ≡ wrapped deg ⌝ }
+{
+    let turned = crate_wrap_to_180(deg);
+    if turned == -180.0 { 180.0 } else { turned }
 }
 
 pub fn grid_variation(latitude_deg: f32, longitude_deg: f32, declination_deg: f32) -> GridAnswer

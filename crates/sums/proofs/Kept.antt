@@ -12,7 +12,7 @@ use lib.Ieee.Fits.{and-l, and-r, down-pos, neg-fits, round-fits}
 use lib.Ieee.Bits.{ofBits-toBits}
 use lib.Ieee.Exact.{HasValue, round-exact}
 use lib.Ieee.Scale.{finite}
-use Rattle.exact.proofs.Round.{in-units, low-enough, whole-units}
+use Rattle.exact.proofs.Round.{digits, in-units, low-enough, whole-units}
 use Rattle.sums.specs.Recurrence.{lit}
 use Rattle.sums.specs.Same.{Same, null, same}
 use Rattle.exact.proofs.Range.{round-null}
@@ -53,14 +53,14 @@ placed s m (pos k) t =
     let e : suc m * 2 ^ k * 2 ^ 149 ≡ suc m * 2 ^ (k + 149) = mul-assoc (suc m) (2 ^ k) (2 ^ 149) ∙ ap (λ (z : ℕ). suc m * z) (sym (pow-add 2 k 149)) in
     let h : suc m * 2 ^ k < 2 ^ 128 * 1 = ltb→lt (suc m * 2 ^ k) (2 ^ 128 * 1) (and-r (a && b && c) d t) in
     let g : suc m * 2 ^ k * 2 ^ 149 < 2 ^ (149 + 128) = mul-lt-mul-of-pos-right h (pow-pos 149) in
-    (k + 149, ltb→lt (suc m) (2 ^ 24) (and-r a b (and-l (a && b) c (and-l (a && b && c) d t))), rw e at g, e ∙ sym (mul-one (suc m * 2 ^ (k + 149))))
+    (k + 149, digits s (suc m) (pos k) t, rw e at g, e ∙ sym (mul-one (suc m * 2 ^ (k + 149))))
 placed s m (negsuc k) t =
     let a : Bool = eqb (suc m % 2) 1 in
     let b : Bool = ltb (suc m) (2 ^ 24) in
     let c : Bool = leb (2 ^ suc k) (2 ^ 149) in
     let d : Bool = ltb (suc m * 1) (2 ^ 128 * 2 ^ suc k) in
     let l : suc k ≤ 149 = low-enough (suc k) (leb→le (2 ^ suc k) (2 ^ 149) (and-r (a && b) c (and-l (a && b && c) d t))) in
-    let h : suc m < 2 ^ 24 = ltb→lt (suc m) (2 ^ 24) (and-r a b (and-l (a && b) c (and-l (a && b && c) d t))) in
+    let h = digits s (suc m) (negsuc k) t in
     (149 - suc k, h, lt-of-lt-of-le (shl-lt 24 (149 - suc k) h) (pow-mono {j = 149 + 128} (omega arith)), in-units (suc m) (suc k) l)
 
 rounds : (s : Bool) (m : ℕ) (e : ℤ) → T (fits binary32 (fin s m e)) → HasValue (round binary32 s (m * up e) (down e)) s (m * up e) (down e)

@@ -80,6 +80,11 @@ fn p10_wrap() {
         [190.0, -190.0, 180.0, -180.0].map(wrap_to_180),
         [-170.0, 170.0, 180.0, -180.0]
     );
+    // the last answer by Wish 5 of document 02
+    assert_eq!(
+        [190.0, -190.0, 180.0, -180.0].map(|deg| one_south(wrap_to_180(deg))),
+        [-170.0, 170.0, 180.0, 180.0]
+    );
 }
 
 #[test]

@@ -204,6 +204,8 @@ fn strengths_and_grid_variation() {
     assert_eq!(ask(54.999996, 10.0, 20.0), Ok(None));
     assert_eq!(ask(55.0, -170.0, 20.0), Ok(Some(-170.0)));
     assert_eq!(ask(-55.0, -170.0, 20.0), Ok(Some(-150.0)));
+    assert_eq!(ask(55.0, 180.0, 0.0), Ok(Some(180.0)));
+    assert_eq!(ask(-55.0, -90.0, -90.0), Ok(Some(180.0)));
 
     assert_eq!(square_root(-0.0).map(f32::to_bits), Ok(0x80000000));
     assert_eq!(square_root(f32::INFINITY), Ok(f32::INFINITY));

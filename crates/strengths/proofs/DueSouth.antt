@@ -1,0 +1,185 @@
+-- One name for due south (document 02, Wish 5): no grid variation is -180, and exactly where ours is not the crate's. Assumes nothing.
+use mathlib.Core.Path.{_≡_, refl, sym, ap, _∙_, subst}
+use mathlib.Core.Logic.{⊎-elim}
+use Prim.Native.Nat.{ℕ, suc, _+_, _-_, _*_, _^_, _≤_, _<_}
+use native.Mathlib.Nat.{eq-zero-or-pos, lt-of-lt-of-le, mul-one, mul-lt-mul-of-pos-right}
+use native.Mathlib.Omega.{arith}
+use mathlib.Core.Bool.{Bool, true, false, _&&_, cond, true≢false}
+use lib.Dec.{T, eqb, eqb→eq, ltb, ltb→lt, nltb→le, lit<, lit≤}
+use lib.IntN.{ℤ, pos, negsuc}
+use lib.Pow.{pow-mono, pow-pos, shl-lt}
+use lib.Ieee.{Float, nan, inf, fin, binary32, up, down, fits, ofBits, neg, round, sum, add, sub, le, lt, eq}
+use lib.Ieee.Exact.{HasValue, round-exact}
+use lib.Ieee.Fits.{add-fits, and-l, and-r, down-pos, sub-fits}
+use Rattle.exact.proofs.Range.{Fit, Holds, add-fit, fit-neg}
+use Rattle.exact.proofs.Round.{digits, in-units}
+use Rattle.exact.proofs.Sizes.{size-between}
+use Rattle.exact.specs.Exact.{own}
+use Rattle.exact.specs.Tests.{between}
+use Rattle.refusals.specs.Paper.{answered, paper, unless}
+use Rattle.refusals.specs.declared.Refusal.the-variants.{Latitude, Longitude, Unusable}
+use Rattle.refusals.proofs.Laws.{passed, answered-one}
+use Rattle.roots.specs.Root.{clear}
+use Rattle.roots.proofs.Signs.{clear-round}
+use Rattle.strengths.specs.Grid.{d55, d90, d180, d360, crateWrapped, wrapped, Variation, degrees, absent, variationBy, variationOf, gridSays}
+
+-- an angle of -180
+abbrev pub south : Variation → Bool
+south (degrees v) = eq v (neg d180)
+south absent = false
+
+-- what holds of the sum in the north, of the sum in the south and of none, under any wraps, holds of the variations
+by-place : (lat lon d : Float) (P : ((Float → Float) → Variation) → Type 0) → P (λ w. degrees (w (sub binary32 d lon))) → P (λ w. degrees (w (add binary32 d lon))) → P (λ w. absent) → P (λ w. variationBy w lat lon d)
+unfolding variationBy
+by-place lat lon d P n s a = go (le d55 lat) (le lat (neg d55))
+  where
+    go : (b c : Bool) → P (λ w. cond b (degrees (w (sub binary32 d lon))) (cond c (degrees (w (add binary32 d lon))) absent))
+    go true c = n
+    go false true = s
+    go false false = a
+
+-- ---- no grid variation is -180
+pub never-minus-180 : (x : Float) → eq (wrapped x) (neg d180) ≡ false
+unfolding wrapped
+never-minus-180 x = go (eq (crateWrapped x) (neg d180)) refl
+  where
+    go : (b : Bool) → eq (crateWrapped x) (neg d180) ≡ b → eq (cond b d180 (crateWrapped x)) (neg d180) ≡ false
+    go true e = unfold ofBits neg eq in refl
+    go false e = e
+
+never-south : (lat lon d : Float) → south (variationOf lat lon d) ≡ false
+unfolding variationOf
+never-south lat lon d = by-place lat lon d (λ v. south (v wrapped) ≡ false) (never-minus-180 (sub binary32 d lon)) (never-minus-180 (add binary32 d lon)) refl
+
+pub no-answer-south : (lat lon d : Float) (v : Variation) → gridSays lat lon d ≡ answered v → south v ≡ false
+unfolding gridSays
+no-answer-south lat lon d v e =
+    let p = passed (between (neg d90) d90 lat) Latitude _ v e in
+    let q = passed (between (neg d180) d180 lon) Longitude _ v (p .1) in
+    let r = passed (between (neg d180) d180 d) Unusable _ v (q .1) in
+    subst (λ (w : Variation). south w ≡ false) (answered-one (variationOf lat lon d) v (r .1)) (never-south lat lon d)
+
+-- ---- ours is 180 where the crate's is -180, and else it is the crate's
+wrapped-as : (x : Float) → degrees (wrapped x) ≡ cond (eq (crateWrapped x) (neg d180)) (degrees d180) (degrees (crateWrapped x))
+unfolding wrapped
+wrapped-as x = go (eq (crateWrapped x) (neg d180))
+  where
+    go : (b : Bool) → degrees (cond b d180 (crateWrapped x)) ≡ cond b (degrees d180) (degrees (crateWrapped x))
+    go true = refl
+    go false = refl
+
+pub as-the-crate : (lat lon d : Float) → variationOf lat lon d ≡ cond (south (variationBy crateWrapped lat lon d)) (degrees d180) (variationBy crateWrapped lat lon d)
+unfolding variationOf
+as-the-crate lat lon d =
+    by-place lat lon d (λ v. v wrapped ≡ cond (south (v crateWrapped)) (degrees d180) (v crateWrapped)) (wrapped-as (sub binary32 d lon)) (wrapped-as (add binary32 d lon)) refl
+
+-- ---- and the crate's is -180 exactly where the sum is
+-- a number without a minus is not -180
+clear-not : (x : Float) → T (clear x) → eq x (neg d180) ≡ false
+unfolding clear eq neg ofBits
+clear-not nan c = refl
+clear-not (inf s) c = refl
+clear-not (fin true m e) c = absurd c
+clear-not (fin false m e) c = go (eqb (m * up e * 1) (180 * down e)) (eqb (m * up e * 1) 0) (eqb→eq (m * up e * 1) (180 * down e)) (eqb→eq (m * up e * 1) 0)
+  where
+    go : (p q : Bool) → (T p → m * up e * 1 ≡ 180 * down e) → (T q → m * up e * 1 ≡ 0) → p && q ≡ false
+    go true true f g = let a = f tt in let b = g tt in absurd (omega (arith, down-pos e))
+    go true false f g = refl
+    go false q f g = refl
+
+-- nor is one of another size
+size-not : (m : ℕ) (e : ℤ) → (m * up e ≡ 180 * down e → ⊥) → eq (fin true m e) (neg d180) ≡ false
+unfolding eq neg ofBits
+size-not m e n = go (eqb (m * up e * 1) (180 * down e)) (eqb→eq (m * up e * 1) (180 * down e))
+  where
+    go : (p : Bool) → (T p → m * up e * 1 ≡ 180 * down e) → p && true ≡ false
+    go true f = let a = f tt in absurd (n (omega arith))
+    go false f = refl
+
+value-not : (x : Float) (n c : ℕ) → HasValue x true n c → n < 180 * c → eq x (neg d180) ≡ false
+value-not nan n c v l = absurd v
+value-not (inf s) n c v l = absurd v
+value-not (fin false m e) n c v l = absurd (true≢false (sym (v .0)))
+value-not (fin true m e) n c v l = size-not m e (λ h. other h (v .1) (mul-lt-mul-of-pos-right l (down-pos e)))
+  where
+    other : m * up e ≡ 180 * down e → m * up e * c ≡ n * down e → n * down e < 180 * c * down e → ⊥
+    other h w z = let k : m * up e * c ≡ 180 * down e * c = rw h in omega arith
+
+-- an f32 above 180 has at most 16 digits after its point
+few : (m : ℕ) (e : ℤ) → T (fits binary32 (fin false m e)) → 180 * down e < m * up e → (i : ℕ) × (i ≤ 16) × (down e ≡ 2 ^ i)
+few m (pos k) f l = (0, lit≤ tt, refl)
+few m (negsuc k) f l = (suc k, ⊎-elim (λ z. omega arith) (λ z. absurd (far z)) (eq-zero-or-pos (suc k - 16)), refl)
+  where
+    far : 0 < suc k - 16 → ⊥
+    far z = let p : 2 ^ 17 ≤ 2 ^ suc k = pow-mono {i = 17} (omega arith) in omega (arith, digits false m (negsuc k) f)
+
+module _ (m : ℕ) (e : ℤ) where
+  -- an angle and a whole turn, over one divisor
+  abbrev a : ℕ
+  a = m * up e * 1
+
+  abbrev b : ℕ
+  b = 360 * down e
+
+  abbrev c : ℕ
+  c = down e * 1
+
+  -- so what is left of it, less a turn, is exact, and not -180
+  left : T (fits binary32 (fin false m e)) → 180 * down e < a → a < b → eq (round binary32 true (b - a) c) (neg d180) ≡ false
+  left f l g =
+      let i = few m e f (omega arith) in
+      let p : 2 ^ i .0 ≤ 2 ^ 16 = pow-mono (i .1) in
+      let r = i .2 in
+      let q : b - a < 2 ^ 24 = omega arith in
+      let u = ap (λ (z : ℕ). z * 2 ^ 149) (sym (mul-one (b - a))) ∙ in-units (b - a) (i .0) (omega arith) ∙ ap (λ (z : ℕ). (b - a) * 2 ^ (149 - i .0) * z) (sym r ∙ sym (mul-one (down e))) in
+      value-not (round binary32 true (b - a) c) (b - a) c (round-exact binary32 true (b - a) c (b - a) (149 - i .0) (omega (arith, down-pos e)) q (lt-of-lt-of-le (shl-lt 24 (149 - i .0) q) (pow-mono {j = 149 + 128} (omega arith))) u) (omega arith)
+
+  less : T (fits binary32 (fin false m e)) → 180 * down e < a → eq (sub binary32 (fin false m e) d360) (neg d180) ≡ false
+  unfolding sub add sum neg ofBits
+  less f l = go (ltb a b) (ltb→lt a b)
+    where
+      go : (p : Bool) → (T p → a < b) → eq (cond p (round binary32 true (b - a) c) (round binary32 false (a - b) c)) (neg d180) ≡ false
+      go true g = left f l (g tt)
+      go false g = clear-not (round binary32 false (a - b) c) (clear-round binary32 (a - b) c)
+
+  -- what is not below -360 has no minus with a turn more
+  more : a ≤ b → eq (add binary32 (fin true m e) d360) (neg d180) ≡ false
+  unfolding add sum ofBits
+  more l = go (ltb a b) (ltb b a) (ltb→lt b a)
+    where
+      go : (p q : Bool) → (T q → b < a) → eq (cond p (round binary32 false (b - a) c) (round binary32 q (a - b) c)) (neg d180) ≡ false
+      go true q g = clear-not (round binary32 false (b - a) c) (clear-round binary32 (b - a) c)
+      go false false g = clear-not (round binary32 false (a - b) c) (clear-round binary32 (a - b) c)
+      go false true g = let k = g tt in absurd (omega arith)
+
+wrapped-south : (x : Float) → T (fits binary32 x) → Fit 360 x → eq (crateWrapped x) (neg d180) ≡ eq x (neg d180)
+unfolding crateWrapped lt neg ofBits own
+wrapped-south nan f g = absurd (g .0)
+wrapped-south (inf s) f g = absurd (g .0)
+wrapped-south (fin false m e) f g = go (ltb (180 * down e) (m * up e * 1)) (ltb→lt (180 * down e) (m * up e * 1))
+  where
+    go : (p : Bool) → (T p → 180 * down e < m * up e * 1) → eq (cond p (sub binary32 (fin false m e) d360) (fin false m e)) (neg d180) ≡ eq (fin false m e) (neg d180)
+    go true l = less m e f (l tt) ∙ sym (clear-not (fin false m e) (unfold clear in tt))
+    go false l = refl
+wrapped-south (fin true m e) f g = go (ltb (180 * down e) (m * up e * 1)) (ltb→lt (180 * down e) (m * up e * 1))
+  where
+    go : (p : Bool) → (T p → 180 * down e < m * up e * 1) → eq (cond p (add binary32 (fin true m e) d360) (fin true m e)) (neg d180) ≡ eq (fin true m e) (neg d180)
+    go true l = more m e (omega (arith, g .1)) ∙ sym (size-not m e (λ z. omega (arith, l tt)))
+    go false l = refl
+
+-- two angles from -180 to 180 add up to one from -360 to 360
+angle : (x : Float) → T (between (neg d180) d180 x) → Fit 180 x
+unfolding neg ofBits
+angle x t = size-between 180 _ _ _ _ _ _ x (lit≤ tt) (lit≤ tt) (and-l (le (neg d180) x) (le x d180) t) (and-r (le (neg d180) x) (le x d180) t)
+
+holds-360 : Holds 360 45 (pos 3)
+unfolding round
+holds-360 = record { is = refl; at-most = lit≤ tt }
+
+pub south-where : (lat lon d : Float) → T (between (neg d180) d180 lon) → T (between (neg d180) d180 d) → south (variationBy crateWrapped lat lon d) ≡ south (variationBy (λ x. x) lat lon d)
+unfolding sub
+south-where lat lon d t u =
+    let of : (y : Float) → Fit 180 y → Fit 360 (add binary32 d y) = λ y f. add-fit 180 180 45 (pos 3) holds-360 d y (angle d u) f in
+    by-place lat lon d (λ v. south (v crateWrapped) ≡ south (v (λ x. x)))
+    (wrapped-south (sub binary32 d lon) (sub-fits binary32 d lon) (of (neg lon) (fit-neg 180 lon (angle lon t))))
+    (wrapped-south (add binary32 d lon) (add-fits binary32 d lon) (of lon (angle lon t))) refl
