@@ -65,6 +65,11 @@ pub round-fit : (B m : ℕ) (e : ℤ) (s : Bool) (num den : ℕ) → Holds B m e
 round-fit B m e false num den b D h = round-fit-pos B m e num den b D h
 round-fit B m e true num den b D h = subst (λ (z : Float). Fit B z) (sym (round-neg num den)) (fit-neg B (round binary32 false num den) (round-fit-pos B m e num den b D h))
 
+most : (B : ℕ) (s : Bool) (m : ℕ) (e : ℤ) → Fit B (fin s m e) → m * up e ≤ B * down e
+unfolding own
+most B false m e f = omega (arith, f .1)
+most B true m e f = omega (arith, f .1)
+
 -- the rounded sum of two floats of size at most B and C, for a B + C that the format holds
 module _ (B C m : ℕ) (e : ℤ) (b : Holds (B + C) m e) where
   sum-fit : (s t : Bool) (x y c : ℕ) → 0 < c → x ≤ B * c → y ≤ C * c → Fit (B + C) (sum binary32 s x t y c)
@@ -78,11 +83,6 @@ module _ (B C m : ℕ) (e : ℤ) (b : Holds (B + C) m e) where
       go true q = rounded s (x + y) (omega arith)
       go false true = rounded t (y - x) (omega arith)
       go false false = rounded (s && ltb y x) (x - y) (omega arith)
-
-  most : (D : ℕ) (s : Bool) (i : ℕ) (k : ℤ) → Fit D (fin s i k) → i * up k ≤ D * down k
-  unfolding own
-  most D false i k f = omega (arith, f .1)
-  most D true i k f = omega (arith, f .1)
 
   pub add-fit : (x y : Float) → Fit B x → Fit C y → Fit (B + C) (add binary32 x y)
   unfolding add

@@ -5,9 +5,9 @@ use Prim.Native.Nat.{ℕ, suc, _+_, _-_, _*_, _^_, _≤_, _<_}
 use native.Mathlib.Nat.{eq-zero-or-pos, lt-of-lt-of-le, mul-one, mul-lt-mul-of-pos-right}
 use native.Mathlib.Omega.{arith}
 use mathlib.Core.Bool.{Bool, true, false, _&&_, cond, true≢false}
-use lib.Dec.{T, eqb, eqb→eq, ltb, ltb→lt, nltb→le, lit<, lit≤}
+use lib.Dec.{T, eqb, eqb→eq, ltb, ltb→lt, lit≤}
 use lib.IntN.{ℤ, pos, negsuc}
-use lib.Pow.{pow-mono, pow-pos, shl-lt}
+use lib.Pow.{pow-mono, shl-lt}
 use lib.Ieee.{Float, nan, inf, fin, binary32, up, down, fits, ofBits, neg, round, sum, add, sub, le, lt, eq}
 use lib.Ieee.Exact.{HasValue, round-exact}
 use lib.Ieee.Fits.{add-fits, and-l, and-r, down-pos, sub-fits}
@@ -16,7 +16,7 @@ use Rattle.exact.proofs.Round.{digits, in-units}
 use Rattle.exact.proofs.Sizes.{size-between}
 use Rattle.exact.specs.Exact.{own}
 use Rattle.exact.specs.Tests.{between}
-use Rattle.refusals.specs.Paper.{answered, paper, unless}
+use Rattle.refusals.specs.Paper.{answered}
 use Rattle.refusals.specs.declared.Refusal.the-variants.{Latitude, Longitude, Unusable}
 use Rattle.refusals.proofs.Laws.{passed, answered-one}
 use Rattle.roots.specs.Root.{clear}
@@ -51,13 +51,17 @@ never-south : (lat lon d : Float) → south (variationOf lat lon d) ≡ false
 unfolding variationOf
 never-south lat lon d = by-place lat lon d (λ v. south (v wrapped) ≡ false) (never-minus-180 (sub binary32 d lon)) (never-minus-180 (add binary32 d lon)) refl
 
-pub no-answer-south : (lat lon d : Float) (v : Variation) → gridSays lat lon d ≡ answered v → south v ≡ false
+-- what an answer has passed, and what it is
+answered-is : (lat lon d : Float) (v : Variation) → gridSays lat lon d ≡ answered v → T (between (neg d180) d180 lon) × T (between (neg d180) d180 d) × (variationOf lat lon d ≡ v)
 unfolding gridSays
-no-answer-south lat lon d v e =
+answered-is lat lon d v e =
     let p = passed (between (neg d90) d90 lat) Latitude _ v e in
     let q = passed (between (neg d180) d180 lon) Longitude _ v (p .1) in
     let r = passed (between (neg d180) d180 d) Unusable _ v (q .1) in
-    subst (λ (w : Variation). south w ≡ false) (answered-one (variationOf lat lon d) v (r .1)) (never-south lat lon d)
+    (subst T (sym (q .0)) tt, subst T (sym (r .0)) tt, answered-one (variationOf lat lon d) v (r .1))
+
+pub no-answer-south : (lat lon d : Float) (v : Variation) → gridSays lat lon d ≡ answered v → south v ≡ false
+no-answer-south lat lon d v e = subst (λ (w : Variation). south w ≡ false) (answered-is lat lon d v e .2) (never-south lat lon d)
 
 -- ---- ours is 180 where the crate's is -180, and else it is the crate's
 wrapped-as : (x : Float) → degrees (wrapped x) ≡ cond (eq (crateWrapped x) (neg d180)) (degrees d180) (degrees (crateWrapped x))
@@ -183,3 +187,9 @@ south-where lat lon d t u =
     by-place lat lon d (λ v. south (v crateWrapped) ≡ south (v (λ x. x)))
     (wrapped-south (sub binary32 d lon) (sub-fits binary32 d lon) (of (neg lon) (fit-neg 180 lon (angle lon t))))
     (wrapped-south (add binary32 d lon) (add-fits binary32 d lon) (of lon (angle lon t))) refl
+
+-- so an answer is the crate's, but 180 where the sum, rounded once, is -180
+pub where-changed : (lat lon d : Float) (v : Variation) → gridSays lat lon d ≡ answered v → v ≡ cond (south (variationBy (λ x. x) lat lon d)) (degrees d180) (variationBy crateWrapped lat lon d)
+where-changed lat lon d v e =
+    let p = answered-is lat lon d v e in
+    sym (p .2) ∙ as-the-crate lat lon d ∙ ap (λ (b : Bool). cond b (degrees d180) (variationBy crateWrapped lat lon d)) (south-where lat lon d (p .0) (p .1))

@@ -39,19 +39,32 @@ fn one_result_changes() {
     ] {
         assert_eq!(ours(deg).to_bits(), wrap_to_180(deg).to_bits(), "{deg:?}");
     }
-    // as one range with one open end, wherever a sum of two angles can lie
+}
+
+/// The crate's rule with "at most -180" for "below -180".
+fn half_open(deg: f32) -> f32 {
+    if deg > 180.0 {
+        deg - 360.0
+    } else if deg <= -180.0 {
+        deg + 360.0
+    } else {
+        deg
+    }
+}
+
+#[test]
+fn the_half_open_range() {
+    let ours = |deg| one_south(wrap_to_180(deg));
+    // the same wherever a sum of two angles can lie
     for bits in (0..=360.0_f32.to_bits()).step_by(9973) {
         for deg in [f32::from_bits(bits), -f32::from_bits(bits)] {
-            let open = if deg > 180.0 {
-                deg - 360.0
-            } else if deg <= -180.0 {
-                deg + 360.0
-            } else {
-                deg
-            };
-            assert_eq!(ours(deg).to_bits(), open.to_bits(), "{deg:?}");
+            assert_eq!(ours(deg).to_bits(), half_open(deg).to_bits(), "{deg:?}");
         }
     }
+    assert_eq!(half_open(-180.0), 180.0);
+    // and farther out it would leave a -180
+    assert_eq!(wrap_to_180(-540.0), -180.0);
+    assert_eq!([ours(-540.0), half_open(-540.0)], [180.0, -180.0]);
 }
 
 #[test]
