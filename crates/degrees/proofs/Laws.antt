@@ -8,12 +8,12 @@ use lib.Dec.{T, lit≤}
 use lib.IntN.{ℤ}
 use lib.Ieee.{Float, nan, inf, fin, binary32, ofBits, fits, le, lt, eq, neg, up, down}
 use lib.Ieee.Bits.{is-true}
-use lib.Ieee.Fits.{down-pos, and-i, and-l, and-r}
+use lib.Ieee.Fits.{down-pos, and-i}
 use borrow.Author.Tests.{lt-ltb}
 use lib.Ieee.Scale.{finite}
 use Rattle.exact.specs.Exact.{own}
 use Rattle.exact.specs.Tests.{circle, between, capped}
-use Rattle.exact.proofs.Sizes.{AtMost, size-between}
+use Rattle.exact.proofs.Sizes.{AtMost, between-size}
 use Rattle.refusals.specs.Paper.{answered, unless, after, told, check, both}
 use Rattle.refusals.specs.declared.Refusal.the-variants.{Latitude, Longitude, DayOfYear, Length, Coefficient, OtherEpoch, Unusable, Angle}
 use Rattle.refusals.specs.declared.Verdict.{Verdict}
@@ -120,7 +120,7 @@ no-minus k l = rw (lt-ltb 0 (1 * down l + k * up l * 1048576) (let p = down-pos 
 
 upright : (x : Float) (p : Pair) → T (fits binary32 x) → T (between (neg d90) d90 x) → sineSays x ≡ answered p → T (le beyond-pole (p .cosine))
 unfolding neg ofBits own
-upright x p h b e = let q = made-pair x p e in go x (size-between 90 _ _ _ _ _ _ x (lit≤ tt) (lit≤ tt) (and-l (le (neg d90) x) (le x d90) b) (and-r (le (neg d90) x) (le x d90) b)) (subst (λ (r : Pair). TurnedAt x r) (q .1) (turned-at x h (q .0)))
+upright x p h b e = let q = made-pair x p e in go x (between-size 90 _ _ _ _ _ _ x (lit≤ tt) (lit≤ tt) b) (subst (λ (r : Pair). TurnedAt x r) (q .1) (turned-at x h (q .0)))
   where
     plus : (s : Bool) (m : ℕ) (e : ℤ) → m * up e ≤ 90 * down e → TurnedAt (fin s m e) p → T (le beyond-pole (p .cosine))
     plus s m e l t = let c = cosine-plus s m e p t l in subst (λ (z : Float). T (le beyond-pole z)) (sym (c .2)) (no-minus (c .0) (c .1))

@@ -65,7 +65,7 @@ pub round-fit : (B m : ℕ) (e : ℤ) (s : Bool) (num den : ℕ) → Holds B m e
 round-fit B m e false num den b D h = round-fit-pos B m e num den b D h
 round-fit B m e true num den b D h = subst (λ (z : Float). Fit B z) (sym (round-neg num den)) (fit-neg B (round binary32 false num den) (round-fit-pos B m e num den b D h))
 
-most : (B : ℕ) (s : Bool) (m : ℕ) (e : ℤ) → Fit B (fin s m e) → m * up e ≤ B * down e
+pub most : (B : ℕ) (s : Bool) (m : ℕ) (e : ℤ) → Fit B (fin s m e) → m * up e ≤ B * down e
 unfolding own
 most B false m e f = omega (arith, f .1)
 most B true m e f = omega (arith, f .1)

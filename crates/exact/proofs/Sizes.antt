@@ -7,9 +7,9 @@ use mathlib.Core.Bool.{Bool, true, false, _&&_, _||_}
 use lib.IntN.{ℤ}
 use lib.Dec.{T, ltb, eqb, ltb→lt, eqb→eq}
 use lib.Ieee.{Float, nan, inf, fin, up, down, lt, eq, le}
-use lib.Ieee.Fits.{down-pos, and-l}
+use lib.Ieee.Fits.{down-pos, and-l, and-r}
 use lib.Ieee.Positive.{num, den}
-use Rattle.exact.specs.Tests.{abs}
+use Rattle.exact.specs.Tests.{abs, between}
 use lib.Ieee.Scale.{finite}
 use Rattle.exact.specs.Exact.{own, invE}
 use Rattle.exact.proofs.Near.{Near, near-own}
@@ -70,8 +70,11 @@ size-between B false t m n e d (fin true k c) a b p q =
 size-between B true t m n e d (fin true k c) a b p q =
     (tt, le-trans (le-of-eq (zero-add (k * up c))) (scale-down B (k * up c) (down c) (m * up e) (down e) (down-pos e) (or-ge (m * up e * down c) (k * up c * down e) true p) a))
 
-pub leaf : (B : ℕ) (s t : Bool) (m n : ℕ) (e d : ℤ) (x : Float) → m * up e ≤ B * down e → n * up d ≤ B * down d → T (le (fin s m e) x) → T (le x (fin t n d)) → Near 0 B 0 x (own x)
-leaf B s t m n e d x a b p q = let h = size-between B s t m n e d x a b p q in near-own (h .0) (h .1)
+pub between-size : (B : ℕ) (s t : Bool) (m n : ℕ) (e d : ℤ) (x : Float) → m * up e ≤ B * down e → n * up d ≤ B * down d → T (between (fin s m e) (fin t n d) x) → T (finite x) × AtMost B x
+between-size B s t m n e d x a b h = size-between B s t m n e d x a b (and-l (le (fin s m e) x) (le x (fin t n d)) h) (and-r (le (fin s m e) x) (le x (fin t n d)) h)
+
+pub leaf : (B : ℕ) (s t : Bool) (m n : ℕ) (e d : ℤ) (x : Float) → m * up e ≤ B * down e → n * up d ≤ B * down d → T (between (fin s m e) (fin t n d) x) → Near 0 B 0 x (own x)
+leaf B s t m n e d x a b h = let k = between-size B s t m n e d x a b h in near-own (k .0) (k .1)
 
 -- of size at most B, by a test of its size
 pub size-leaf : (B n : ℕ) (d : ℤ) (x : Float) → n * up d ≤ B * down d → T (le (abs x) (fin false n d)) → Near 0 B 0 x (own x)

@@ -1,19 +1,23 @@
--- One name for due south (document 02, Wish 5): no grid variation is -180, and exactly where ours is not the crate's. Assumes nothing.
+-- One name for due south (document 02, Wish 5): no grid variation is -180, exactly where ours is not the crate's, and that it lies above -180 and up to 180. Assumes nothing.
 use mathlib.Core.Path.{_≡_, refl, sym, ap, _∙_, subst}
 use mathlib.Core.Logic.{⊎-elim}
 use Prim.Native.Nat.{ℕ, suc, _+_, _-_, _*_, _^_, _≤_, _<_}
 use native.Mathlib.Nat.{eq-zero-or-pos, lt-of-lt-of-le, mul-one, mul-lt-mul-of-pos-right}
 use native.Mathlib.Omega.{arith}
-use mathlib.Core.Bool.{Bool, true, false, _&&_, cond, true≢false}
-use lib.Dec.{T, eqb, eqb→eq, ltb, ltb→lt, lit≤}
+use borrow.Author.Tests.{lt-ltb}
+use mathlib.Core.Bool.{Bool, true, false, not, _&&_, cond, true≢false}
+use lib.Dec.{T, eqb, eqb→eq, ltb, ltb→lt, nltb→le, lit<, lit≤}
+use lib.Arith.{lt-of-le-ne}
 use lib.IntN.{ℤ, pos, negsuc}
 use lib.Pow.{pow-mono, shl-lt}
 use lib.Ieee.{Float, nan, inf, fin, binary32, up, down, fits, ofBits, neg, round, sum, add, sub, le, lt, eq}
+use lib.Ieee.Bits.{is-true}
 use lib.Ieee.Exact.{HasValue, round-exact}
-use lib.Ieee.Fits.{add-fits, and-l, and-r, down-pos, sub-fits}
-use Rattle.exact.proofs.Range.{Fit, Holds, add-fit, fit-neg}
+use lib.Ieee.Fits.{add-fits, down-pos, eq→eqb, sub-fits}
+use lib.Ieee.Order.{le-of-values}
+use Rattle.exact.proofs.Range.{Fit, Holds, add-fit, fit-neg, most, round-fit}
 use Rattle.exact.proofs.Round.{digits, in-units}
-use Rattle.exact.proofs.Sizes.{size-between}
+use Rattle.exact.proofs.Sizes.{between-size}
 use Rattle.exact.specs.Exact.{own}
 use Rattle.exact.specs.Tests.{between}
 use Rattle.refusals.specs.Paper.{answered}
@@ -117,6 +121,18 @@ few m (negsuc k) f l = (suc k, ⊎-elim (λ z. omega arith) (λ z. absurd (far z
     far : 0 < suc k - 16 → ⊥
     far z = let p : 2 ^ 17 ≤ 2 ^ suc k = pow-mono {i = 17} (omega arith) in omega (arith, digits false m (negsuc k) f)
 
+holds-180 : Holds 180 45 (pos 2)
+unfolding round
+holds-180 = record { is = refl; at-most = lit≤ tt }
+
+holds-360 : Holds 360 45 (pos 3)
+unfolding round
+holds-360 = record { is = refl; at-most = lit≤ tt }
+
+-- at most half a turn out, and not -180
+abbrev Inside : Float → Type 0
+Inside v = Fit 180 v × (eq v (neg d180) ≡ false)
+
 module _ (m : ℕ) (e : ℤ) where
   -- an angle and a whole turn, over one divisor
   abbrev a : ℕ
@@ -128,68 +144,113 @@ module _ (m : ℕ) (e : ℤ) where
   abbrev c : ℕ
   c = down e * 1
 
-  -- so what is left of it, less a turn, is exact, and not -180
-  left : T (fits binary32 (fin false m e)) → 180 * down e < a → a < b → eq (round binary32 true (b - a) c) (neg d180) ≡ false
-  left f l g =
-      let i = few m e f (omega arith) in
-      let p : 2 ^ i .0 ≤ 2 ^ 16 = pow-mono (i .1) in
-      let r = i .2 in
-      let q : b - a < 2 ^ 24 = omega arith in
-      let u = ap (λ (z : ℕ). z * 2 ^ 149) (sym (mul-one (b - a))) ∙ in-units (b - a) (i .0) (omega arith) ∙ ap (λ (z : ℕ). (b - a) * 2 ^ (149 - i .0) * z) (sym r ∙ sym (mul-one (down e))) in
-      value-not (round binary32 true (b - a) c) (b - a) c (round-exact binary32 true (b - a) c (b - a) (149 - i .0) (omega (arith, down-pos e)) q (lt-of-lt-of-le (shl-lt 24 (149 - i .0) q) (pow-mono {j = 149 + 128} (omega arith))) u) (omega arith)
+  rounded : (s : Bool) (n : ℕ) → n ≤ 180 * c → Fit 180 (round binary32 s n c)
+  rounded s n h = round-fit 180 45 (pos 2) s n c holds-180 (omega (arith, down-pos e)) h
 
-  less : T (fits binary32 (fin false m e)) → 180 * down e < a → eq (sub binary32 (fin false m e) d360) (neg d180) ≡ false
-  unfolding sub add sum neg ofBits
-  less f l = go (ltb a b) (ltb→lt a b)
-    where
-      go : (p : Bool) → (T p → a < b) → eq (cond p (round binary32 true (b - a) c) (round binary32 false (a - b) c)) (neg d180) ≡ false
-      go true g = left f l (g tt)
-      go false g = clear-not (round binary32 false (a - b) c) (clear-round binary32 (a - b) c)
+  clear-inside : (n : ℕ) → n ≤ 180 * c → Inside (round binary32 false n c)
+  clear-inside n h = (rounded false n h, clear-not (round binary32 false n c) (clear-round binary32 n c))
 
-  -- what is not below -360 has no minus with a turn more
-  more : a ≤ b → eq (add binary32 (fin true m e) d360) (neg d180) ≡ false
-  unfolding add sum ofBits
-  more l = go (ltb a b) (ltb b a) (ltb→lt b a)
-    where
-      go : (p q : Bool) → (T q → b < a) → eq (cond p (round binary32 false (b - a) c) (round binary32 q (a - b) c)) (neg d180) ≡ false
-      go true q g = clear-not (round binary32 false (b - a) c) (clear-round binary32 (b - a) c)
-      go false false g = clear-not (round binary32 false (a - b) c) (clear-round binary32 (a - b) c)
-      go false true g = let k = g tt in absurd (omega arith)
+  module _ (l : 180 * down e < a) (h : a ≤ b) where
+    -- so what is left of it, less a turn, is exact, and not -180
+    left : T (fits binary32 (fin false m e)) → eq (round binary32 true (b - a) c) (neg d180) ≡ false
+    left f =
+        let i = few m e f (omega arith) in
+        let p : 2 ^ i .0 ≤ 2 ^ 16 = pow-mono (i .1) in
+        let r = i .2 in
+        let q : b - a < 2 ^ 24 = omega arith in
+        let u = ap (λ (z : ℕ). z * 2 ^ 149) (sym (mul-one (b - a))) ∙ in-units (b - a) (i .0) (omega arith) ∙ ap (λ (z : ℕ). (b - a) * 2 ^ (149 - i .0) * z) (sym r ∙ sym (mul-one (down e))) in
+        value-not (round binary32 true (b - a) c) (b - a) c (round-exact binary32 true (b - a) c (b - a) (149 - i .0) (omega (arith, down-pos e)) q (lt-of-lt-of-le (shl-lt 24 (149 - i .0) q) (pow-mono {j = 149 + 128} (omega arith))) u) (omega arith)
 
-wrapped-south : (x : Float) → T (fits binary32 x) → Fit 360 x → eq (crateWrapped x) (neg d180) ≡ eq x (neg d180)
+    less : T (fits binary32 (fin false m e)) → Inside (sub binary32 (fin false m e) d360)
+    unfolding sub add sum neg ofBits
+    less f = go (ltb a b)
+      where
+        go : (p : Bool) → Inside (cond p (round binary32 true (b - a) c) (round binary32 false (a - b) c))
+        go true = (rounded true (b - a) (omega arith), left f)
+        go false = clear-inside (a - b) (omega arith)
+
+    -- with a turn more, what is not below -360 has no minus
+    more : Inside (add binary32 (fin true m e) d360)
+    unfolding add sum ofBits
+    more = go (ltb a b) (ltb b a) (ltb→lt b a)
+      where
+        go : (p q : Bool) → (T q → b < a) → Inside (cond p (round binary32 false (b - a) c) (round binary32 q (a - b) c))
+        go true q g = clear-inside (b - a) (omega arith)
+        go false false g = clear-inside (a - b) (omega arith)
+        go false true g = let k = g tt in absurd (omega arith)
+
+-- turned to another, or left as it is
+either : (x y : Float) (p : Bool) → (T p → Inside y × (eq x (neg d180) ≡ false)) → (T (not p) → Fit 180 x) → Fit 180 (cond p y x) × (eq (cond p y x) (neg d180) ≡ eq x (neg d180))
+either x y true f g = let i = f tt in (i .0 .0, i .0 .1 ∙ sym (i .1))
+either x y false f g = (g tt, refl)
+
+-- the wrap of what is at most a turn out is at most half a turn out, and is -180 where it was so before
+wrapped-south : (x : Float) → T (fits binary32 x) → Fit 360 x → Fit 180 (crateWrapped x) × (eq (crateWrapped x) (neg d180) ≡ eq x (neg d180))
 unfolding crateWrapped lt neg ofBits own
 wrapped-south nan f g = absurd (g .0)
 wrapped-south (inf s) f g = absurd (g .0)
-wrapped-south (fin false m e) f g = go (ltb (180 * down e) (m * up e * 1)) (ltb→lt (180 * down e) (m * up e * 1))
-  where
-    go : (p : Bool) → (T p → 180 * down e < m * up e * 1) → eq (cond p (sub binary32 (fin false m e) d360) (fin false m e)) (neg d180) ≡ eq (fin false m e) (neg d180)
-    go true l = less m e f (l tt) ∙ sym (clear-not (fin false m e) (unfold clear in tt))
-    go false l = refl
-wrapped-south (fin true m e) f g = go (ltb (180 * down e) (m * up e * 1)) (ltb→lt (180 * down e) (m * up e * 1))
-  where
-    go : (p : Bool) → (T p → 180 * down e < m * up e * 1) → eq (cond p (add binary32 (fin true m e) d360) (fin true m e)) (neg d180) ≡ eq (fin true m e) (neg d180)
-    go true l = more m e (omega (arith, g .1)) ∙ sym (size-not m e (λ z. omega (arith, l tt)))
-    go false l = refl
+wrapped-south (fin false m e) f g =
+    either (fin false m e) (sub binary32 (fin false m e) d360) (ltb (180 * down e) (a m e))
+    (λ t. (less m e (ltb→lt (180 * down e) (a m e) t) (omega (arith, most 360 false m e g)) f, clear-not (fin false m e) (unfold clear in tt)))
+    (λ t. (tt, omega (arith, nltb→le (180 * down e) (a m e) t)))
+wrapped-south (fin true m e) f g =
+    either (fin true m e) (add binary32 (fin true m e) d360) (ltb (180 * down e) (a m e))
+    (λ t. let l = ltb→lt (180 * down e) (a m e) t in (more m e l (omega (arith, most 360 true m e g)), size-not m e (λ z. omega arith)))
+    (λ t. (tt, omega (arith, nltb→le (180 * down e) (a m e) t)))
 
 -- two angles from -180 to 180 add up to one from -360 to 360
 angle : (x : Float) → T (between (neg d180) d180 x) → Fit 180 x
 unfolding neg ofBits
-angle x t = size-between 180 _ _ _ _ _ _ x (lit≤ tt) (lit≤ tt) (and-l (le (neg d180) x) (le x d180) t) (and-r (le (neg d180) x) (le x d180) t)
+angle x t = between-size 180 _ _ _ _ _ _ x (lit≤ tt) (lit≤ tt) t
 
-holds-360 : Holds 360 45 (pos 3)
-unfolding round
-holds-360 = record { is = refl; at-most = lit≤ tt }
+module _ (lon d : Float) (t : T (between (neg d180) d180 lon)) (u : T (between (neg d180) d180 d)) where
+  plus : Fit 360 (add binary32 d lon)
+  plus = add-fit 180 180 45 (pos 3) holds-360 d lon (angle d u) (angle lon t)
 
-pub south-where : (lat lon d : Float) → T (between (neg d180) d180 lon) → T (between (neg d180) d180 d) → south (variationBy crateWrapped lat lon d) ≡ south (variationBy (λ x. x) lat lon d)
-unfolding sub
-south-where lat lon d t u =
-    let of : (y : Float) → Fit 180 y → Fit 360 (add binary32 d y) = λ y f. add-fit 180 180 45 (pos 3) holds-360 d y (angle d u) f in
-    by-place lat lon d (λ v. south (v crateWrapped) ≡ south (v (λ x. x)))
-    (wrapped-south (sub binary32 d lon) (sub-fits binary32 d lon) (of (neg lon) (fit-neg 180 lon (angle lon t))))
-    (wrapped-south (add binary32 d lon) (add-fits binary32 d lon) (of lon (angle lon t))) refl
+  minus : Fit 360 (sub binary32 d lon)
+  unfolding sub
+  minus = add-fit 180 180 45 (pos 3) holds-360 d (neg lon) (angle d u) (fit-neg 180 lon (angle lon t))
+
+  pub south-where : (lat : Float) → south (variationBy crateWrapped lat lon d) ≡ south (variationBy (λ x. x) lat lon d)
+  south-where lat =
+      by-place lat lon d (λ v. south (v crateWrapped) ≡ south (v (λ x. x)))
+      (wrapped-south (sub binary32 d lon) (sub-fits binary32 d lon) minus .1) (wrapped-south (add binary32 d lon) (add-fits binary32 d lon) plus .1) refl
 
 -- so an answer is the crate's, but 180 where the sum, rounded once, is -180
 pub where-changed : (lat lon d : Float) (v : Variation) → gridSays lat lon d ≡ answered v → v ≡ cond (south (variationBy (λ x. x) lat lon d)) (degrees d180) (variationBy crateWrapped lat lon d)
 where-changed lat lon d v e =
     let p = answered-is lat lon d v e in
-    sym (p .2) ∙ as-the-crate lat lon d ∙ ap (λ (b : Bool). cond b (degrees d180) (variationBy crateWrapped lat lon d)) (south-where lat lon d (p .0) (p .1))
+    sym (p .2) ∙ as-the-crate lat lon d ∙ ap (λ (b : Bool). cond b (degrees d180) (variationBy crateWrapped lat lon d)) (south-where lon d (p .0) (p .1) lat)
+
+-- ---- a grid variation lies above -180 and up to 180
+abbrev pub in-turn : Variation → Bool
+in-turn (degrees v) = lt (neg d180) v && le v d180
+in-turn absent = true
+
+inside : (v : Float) → Inside v → T (in-turn (degrees v))
+unfolding lt le eq neg ofBits
+inside nan i = absurd (i .0 .0)
+inside (inf s) i = absurd (i .0 .0)
+inside (fin false m e) i =
+    rw (lt-ltb 0 (180 * down e + m * up e * 1) (omega (arith, down-pos e)))
+    (le-of-values (fin false m e) (fin false 45 (pos 2)) (m * up e) (down e) 180 1 (down-pos e) (lit< tt) (refl, refl) (refl, refl) (omega (arith, most 180 false m e (i .0))))
+inside (fin true m e) i =
+    rw (lt-ltb (m * up e * 1) (180 * down e) (lt-of-le-ne (omega (arith, most 180 true m e (i .0))) other), lt-ltb 0 (m * up e * 1 + 180 * down e) (omega (arith, down-pos e))) tt
+  where
+    other : m * up e * 1 ≡ 180 * down e → ⊥
+    other h = true≢false (sym (ap (λ (b : Bool). b && true) (is-true (eqb (m * up e * 1) (180 * down e)) (eq→eqb h))) ∙ i .1)
+
+wrapped-inside : (x : Float) → T (fits binary32 x) → Fit 360 x → T (in-turn (degrees (wrapped x)))
+unfolding wrapped
+wrapped-inside x f g = go (eq (crateWrapped x) (neg d180)) refl
+  where
+    go : (b : Bool) → eq (crateWrapped x) (neg d180) ≡ b → T (in-turn (degrees (cond b d180 (crateWrapped x))))
+    go true e = unfold lt le eq neg ofBits in tt
+    go false e = inside (crateWrapped x) (wrapped-south x f g .0, e)
+
+pub in-range : (lat lon d : Float) (v : Variation) → gridSays lat lon d ≡ answered v → T (in-turn v)
+unfolding variationOf
+in-range lat lon d v e =
+    let p = answered-is lat lon d v e in
+    subst (λ (w : Variation). T (in-turn w)) (p .2)
+    (by-place lat lon d (λ w. T (in-turn (w wrapped))) (wrapped-inside (sub binary32 d lon) (sub-fits binary32 d lon) (minus lon d (p .0) (p .1))) (wrapped-inside (add binary32 d lon) (add-fits binary32 d lon) (plus lon d (p .0) (p .1))) tt)

@@ -1,14 +1,14 @@
 -- Demand 3 for Sum: what passed the checks is of the sizes that the laws ask for, and each component lies within the promised distance.
 use mathlib.Core.Path.{_≡_, refl}
 use mathlib.Core.List.{List, [], _∷_}
-use Prim.Native.Nat.{ℕ, zero, suc, _-_, _*_, _≤_}
-use mathlib.Core.Bool.{Bool, false, not}
+use Prim.Native.Nat.{ℕ, zero, suc, _-_}
+use mathlib.Core.Bool.{false, not}
 use lib.ListN.{getD}
-use lib.IntN.{ℤ, pos, negsuc}
+use lib.IntN.{pos, negsuc}
 use lib.Dec.{T, lit≤}
-use lib.Ieee.{Float, fin, up, down, le, ofBits}
+use lib.Ieee.{Float, ofBits}
 use lib.Ieee.Fits.{and-l, and-r}
-use Rattle.exact.specs.Tests.{all-capped, between, capped}
+use Rattle.exact.specs.Tests.{all-capped, capped}
 use Rattle.exact.specs.Exact.{Exact, size}
 use Rattle.exact.proofs.Sizes.{leaf, size-leaf}
 use Rattle.exact.proofs.Ranks.{Leaf, Nr}
@@ -50,16 +50,13 @@ rate-nought : T (capped rate-cap nought)
 unfolding capped ofBits lib.Ieee.le lib.Ieee.lt lib.Ieee.eq
 rate-nought = tt
 
-between-leaf : (B : ℕ) (s t : Bool) (m n : ℕ) (e d : ℤ) (x : Float) → m * up e ≤ B * down e → n * up d ≤ B * down d → T (between (fin s m e) (fin t n d) x) → Leaf B x
-between-leaf B s t m n e d x a b h = leaf B s t m n e d x a b (and-l (le (fin s m e) x) (le x (fin t n d)) h) (and-r (le (fin s m e) x) (le x (fin t n d)) h)
-
 ratio-leaf : (x : Float) → T (ratio-ok x) → Leaf 2 x
 unfolding ratio-ok ofBits
-ratio-leaf x t = between-leaf 2 false false 7 65 (negsuc 2) (negsuc 5) x (lit≤ tt) (lit≤ tt) t
+ratio-leaf x t = leaf 2 false false 7 65 (negsuc 2) (negsuc 5) x (lit≤ tt) (lit≤ tt) t
 
 offset-leaf : (x : Float) → T (offset-ok x) → Leaf 5 x
 unfolding offset-ok ofBits
-offset-leaf x t = between-leaf 5 false false 0 5 (pos 0) (pos 0) x (lit≤ tt) (lit≤ tt) t
+offset-leaf x t = leaf 5 false false 0 5 (pos 0) (pos 0) x (lit≤ tt) (lit≤ tt) t
 
 main-at : (l : List Float) → T (all-capped main-cap l) → (n m : ℕ) → Leaf 65536 (at l n m)
 main-at l t n m = main-leaf (at l n m) (capped-at main-cap l (place n m - 1) main-nought t)
