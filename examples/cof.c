@@ -1,11 +1,12 @@
-/* Reads a coefficient file whole and hands its bytes to the library. A refused file is explained: which
- * line, what should stand there, and what stands there. */
+/* Hands the bytes of a coefficient file to the library. A refused file is explained: which line, what
+ * should stand there, and what stands there. */
 #include "cof.h"
 
-#include <errno.h>
 #include <stdio.h>
 #include <stdlib.h>
 #include <string.h>
+
+#include "files.h"
 
 struct bytes {
     const uint8_t *at;
@@ -14,29 +15,6 @@ struct bytes {
 
 /* Line 1 is the header; the next 90 are the coefficients'. So much of a refused line is shown. */
 enum { FIRST_LINE = 2, LAST_LINE = FIRST_LINE + NJERUMOY_LIST_LENGTH - 1, SHOWN_BYTES = 60 };
-
-/* A file's bytes, whatever their number, to be freed. NULL, with errno, where it cannot be read. */
-static uint8_t *read_all(FILE *file, size_t *length) {
-    uint8_t *bytes = NULL;
-    size_t room = 0, got = 0;
-    *length = 0;
-    do {
-        *length += got;
-        if (*length == room) {
-            room = room == 0 ? 16384 : 2 * room;
-            uint8_t *const larger = realloc(bytes, room);
-            if (larger == NULL) {
-                free(bytes);
-                return NULL;
-            }
-            bytes = larger;
-        }
-        got = fread(bytes + *length, 1, room - *length, file);
-    } while (got > 0);
-    if (!ferror(file)) return bytes;
-    free(bytes);
-    return NULL;
-}
 
 /* A line without its end. Behind the last one every line is empty, at the file's end. */
 static struct bytes line_of(struct bytes text, size_t line) {
@@ -83,13 +61,18 @@ static void show_place(size_t line) {
     printf("degree %zu, order %zu", degree, order);
 }
 
-static void show_over_cap(struct bytes line, const size_t entry[2]) {
+void show_cap(const size_t entry[2]) {
     static const char *const LISTS[] = {"g", "h", "g_dot", "h_dot"};
-    printf("has ");
-    show(word_of(line, 2 + entry[0]));
-    printf(" for %s of ", LISTS[entry[0]]);
+    printf("for %s of ", LISTS[entry[0]]);
     show_place(FIRST_LINE + entry[1]);
     printf(": at most %s is accepted, plus or minus", entry[0] < 2 ? "65536 nT" : "4096 nT a year");
+}
+
+static void show_over_cap(struct bytes line, const size_t entry[2]) {
+    printf("has ");
+    show(word_of(line, 2 + entry[0]));
+    putchar(' ');
+    show_cap(entry);
 }
 
 static void show_malformed(size_t line) {
@@ -133,11 +116,8 @@ static void explain(uint32_t refusal, struct bytes text, const size_t entry[2], 
 }
 
 int read_cof_file(const char *path, struct njerumoy_owned_set *set) {
-    FILE *const file = fopen(path, "rb");
     size_t length, entry[2], line;
-    uint8_t *const bytes = file == NULL ? NULL : read_all(file, &length);
-    if (bytes == NULL) fprintf(stderr, "wmm: %s: %s\n", path, strerror(errno));
-    if (file != NULL) fclose(file);
+    uint8_t *const bytes = read_file(path, &length);
     if (bytes == NULL) return 2;
 
     const struct bytes text = {bytes, length};

@@ -1,6 +1,6 @@
 /* The field at a place and a day, for people. The command ./wmm builds and runs it; ./wmm --help says
  * what its words mean. Every number is worked out by the proved library, and none by a C library's
- * mathematics; the sets are the published ones, or the set of a coefficient file. */
+ * mathematics; the sets are the published ones, or the set of a coefficient file or a stored set. */
 #include <errno.h>
 #include <stdio.h>
 #include <stdlib.h>
@@ -8,9 +8,11 @@
 
 #include "cof.h"
 #include "njerumoy_published.h"
+#include "stored_file.h"
 
 static const char USAGE[] =
-    "usage: ./wmm [--cof FILE] LAT LON HEIGHT_M YEAR DAY   (./wmm --help says more)\n";
+    "usage: ./wmm [--cof FILE | --set FILE] LAT LON HEIGHT_M YEAR DAY\n"
+    "       ./wmm --store FILE --cof FILE                   (./wmm --help says more)\n";
 
 static const char *const WORDS[] = {
     "an answer",
@@ -30,6 +32,10 @@ static const char *const WORDS[] = {
     "a line of the coefficient file is out of order or missing",
     "the list of error records has none of the epoch year",
     "the angle is not finite, or not from -180 to 180 degrees",
+    "a tag of the stored set is not the one that is due",
+    "a length in the stored set is not that of its field",
+    "the stored set is cut short, or bytes are left over",
+    "there is no room for the stored set, or its epoch year is not from 0 to 65535",
 };
 
 /* What is asked: degrees, metres, and a day. */
@@ -201,22 +207,45 @@ static int answer(const struct question *q, const struct njerumoy_set *set) {
     return 0;
 }
 
+static int usage(void) {
+    fputs(USAGE, stderr);
+    return 2;
+}
+
+/* The two options in either order. The output is not touched before the set is there. */
+static int store(char **words) {
+    const int first = strcmp(words[0], "--store") == 0;
+    char **const to = first ? words : words + 2, **const from = first ? words + 2 : words;
+    struct njerumoy_owned_set own;
+
+    if (strcmp(to[0], "--store") != 0 || strcmp(from[0], "--cof") != 0) return usage();
+    const int status = read_cof_file(from[1], &own);
+    return status != 0 ? status : write_stored_file(to[1], &own);
+}
+
+typedef int reader(const char *path, struct njerumoy_owned_set *set);
+
+/* How the file of an option is read; NULL where the word is no such option. */
+static reader *reader_of(const char *word) {
+    if (strcmp(word, "--cof") == 0) return read_cof_file;
+    if (strcmp(word, "--set") == 0) return read_stored_file;
+    return NULL;
+}
+
 int main(int count, char **words) {
-    const int of_file = count == 8 && strcmp(words[1], "--cof") == 0;
+    reader *const of_file = count == 8 ? reader_of(words[1]) : NULL;
     struct njerumoy_owned_set own;
     struct njerumoy_set set;
     struct question q;
 
-    if (count != (of_file ? 8 : 6) || !read_question(words + count - 5, &q)) {
-        fputs(USAGE, stderr);
-        return 2;
-    }
-    if (of_file) {
-        const int status = read_cof_file(words[2], &own);
+    if (count == 5) return store(words + 1);
+    if (count != (of_file == NULL ? 6 : 8) || !read_question(words + count - 5, &q)) return usage();
+    if (of_file == NULL) {
+        set = published_set(&q);
+    } else {
+        const int status = of_file(words[2], &own);
         if (status != 0) return status;
         set = njerumoy_lent(&own);
-    } else {
-        set = published_set(&q);
     }
     return answer(&q, &set);
 }

@@ -3,22 +3,23 @@
  * Every function returns a refusal number: 0 where it has an answer, else one of the numbers below.
  * A place that is lent for a result is written only where the call has that result; else it keeps
  * what it held. The lists of coefficients and of error records are only read, but by
- * njerumoy_read_cof: to that call the coefficients' are places for results. Nothing is kept between
- * two calls, so calls may run at the same time in several threads. Of other libraries only memcpy and
+ * njerumoy_read_cof and njerumoy_read_stored: to these two the coefficients' are places for results.
+ * The bytes of a stored set are only read, but by njerumoy_write_stored. Nothing is kept between two
+ * calls, so calls may run at the same time in several threads. Of other libraries only memcpy and
  * memset are called.
  *
  * Whatever numbers and bytes come, a call ends and answers as this file says: NaNs, infinities, and
- * lists and texts of any length. What the caller owes is what C cannot say:
- *   - a pointer is not null and is aligned, also for a list or a text of length 0;
+ * lists, texts and stored bytes of any length. What the caller owes is what C cannot say:
+ *   - a pointer is not null and is aligned, also for a list, a text or bytes of length 0;
  *   - behind a list's pointer stand at least as many floats or error records as its length says, and
- *     behind a text's as many bytes;
- *   - the places for results overlap neither each other nor a list or a text that is read.
+ *     behind a text's or stored bytes' as many bytes;
+ *   - the places for results overlap neither each other nor what is read.
  *
  * float is IEEE 754 binary32. The processor rounds to nearest, and flushes no subnormal to zero
  * (leave -ffast-math out when you link). Strengths are in nanotesla, rates in nanotesla a year,
  * angles in degrees, heights in metres above the WGS 84 ellipsoid.
  *
- * These are the proved functions. To them a set is loose arguments: its year, and each list.
+ * These are the proved functions. To them a set is loose arguments, its year and each list, or bytes.
  * njerumoy_set.h has the same calls with the set in one piece, and njerumoy_published.h the two
  * published sets: there the lists of one epoch are not lent with the year of another by mistake.
  */
@@ -76,7 +77,16 @@ enum {
     /* a lent list has no error record of the epoch year */
     NJERUMOY_NO_ERROR_RECORD = 15,
     /* an angle is not finite, or outside -180 to 180 degrees */
-    NJERUMOY_ANGLE = 16
+    NJERUMOY_ANGLE = 16,
+    /* a tag of a stored set is not the one that is due. `place` is told where it stands. */
+    NJERUMOY_WRONG_TAG = 17,
+    /* a length in a stored set is not that of its field. `place` is told where it begins. */
+    NJERUMOY_WRONG_LENGTH = 18,
+    /* a stored set is cut short, or bytes are left over. `place` is told where. */
+    NJERUMOY_WRONG_END = 19,
+    /* a set cannot be stored: the output is shorter than a stored set, or the epoch year is outside 0
+     * to 65535 */
+    NJERUMOY_NO_ROOM = 20
 };
 
 /* A pair (sine, cosine) is off the circle where one of them is not finite, or the sum of their
@@ -250,6 +260,69 @@ uint32_t njerumoy_read_cof(const uint8_t *text, size_t text_length, float *g, si
                            float *h, size_t h_length, float *g_dot, size_t g_dot_length,
                            float *h_dot, size_t h_dot_length, int32_t *epoch_year, size_t entry[2],
                            size_t *line);
+
+/* The number of bytes of a stored set. */
+enum { NJERUMOY_STORED_LENGTH = 1457 };
+
+/* A stored set is a coefficient set as bytes, to be kept in a file or handed across: five fields, in
+ * this order, and nothing else.
+ *
+ *   place   tag   length   content
+ *       0     1        2   the epoch year, 0 to 65535
+ *       5     2      360   the list g: the bits of its 90 floats
+ *     368     3      360   h
+ *     731     4      360   g_dot
+ *    1094     5      360   h_dot
+ *
+ * A field is its tag, of one byte, the length of its content, of two, and the content. Of the year, of
+ * a length and of the bits of a float the low byte comes first. Places are counted from 0.
+ *
+ * A set that is written reads back to the same bits, and bytes that are read write back the same. */
+
+/* Read a stored set.
+ *
+ * stored        the bytes, with their number
+ * g .. h_dot    where the set is put, each list with its length
+ * epoch_year    the set's epoch year. Any year is read; njerumoy_field refuses others by 5
+ * entry         of refusal 7: as in njerumoy_field
+ * place         of refusals 17, 18 and 19: the place in the bytes
+ *
+ * Refusals: 6; then the first place in the bytes that is refused, by 17, 18 or 19; then, of bytes that
+ * are all in order, 7. Of 17 the place is that of the tag, of 18 that of the length's first byte. Of
+ * 19 it is their number where they are cut short, and NJERUMOY_STORED_LENGTH where bytes are left
+ * over. Refused bytes leave the four lists and epoch_year as they were. */
+uint32_t njerumoy_read_stored(const uint8_t *stored, size_t stored_length, float *g, size_t g_length,
+                              float *h, size_t h_length, float *g_dot, size_t g_dot_length,
+                              float *h_dot, size_t h_dot_length, int32_t *epoch_year,
+                              size_t entry[2], size_t *place);
+
+/* Write a set as a stored set.
+ *
+ * epoch_year    the set's epoch year
+ * g .. h_dot    the set, each list with its length
+ * stored        where the bytes are put, with the number of bytes that there is room for. Those beyond
+ *               the first NJERUMOY_STORED_LENGTH stay as they were
+ * entry         of refusal 7: as in njerumoy_field
+ *
+ * Refusals, in this order: 6, 7, 20. A refused set leaves all bytes as they were. */
+uint32_t njerumoy_write_stored(int32_t epoch_year, const float *g, size_t g_length, const float *h,
+                               size_t h_length, const float *g_dot, size_t g_dot_length,
+                               const float *h_dot, size_t h_dot_length, uint8_t *stored,
+                               size_t stored_length, size_t entry[2]);
+
+/* Field, with the set as stored bytes: all is told as njerumoy_field tells it of the set that
+ * njerumoy_read_stored reads, to the bit.
+ *
+ * stored        the bytes, with their number
+ * height .. years   as in njerumoy_field
+ * place         of refusals 17, 18 and 19: as in njerumoy_read_stored
+ *
+ * Refusals, in this order: those of njerumoy_read_stored, without 6; 1, 2, 3, 4, 5, 8 as in
+ * njerumoy_field. */
+uint32_t njerumoy_field_stored(const uint8_t *stored, size_t stored_length, float height,
+                               float sin_phi, float cos_phi, float sin_lambda, float cos_lambda,
+                               int32_t year, int32_t day_of_year, float xyz[3], float errors[8],
+                               size_t entry[2], int32_t years[2], size_t *place);
 
 /* The strengths over a field's X, Y and Z. Refusal 12, by any of the three.
  *

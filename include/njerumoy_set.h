@@ -2,7 +2,7 @@
  * lends one names no year beside it. njerumoy_published.h has the two published sets in this form.
  *
  * Each function here but njerumoy_lent only hands the members on, to the function of njerumoy.h that
- * has its name without `_with` or `_into`. What njerumoy.h says of that one holds here too: its
+ * has its name without `_with`, `_into` or `_at`. What njerumoy.h says of that one holds here too: its
  * answers, its refusals, and what the caller owes. These few lines are not proved; the tests in
  * bindings/c compare the two.
  */
@@ -18,8 +18,8 @@ struct njerumoy_set {
     size_t g_length, h_length, g_dot_length, h_dot_length;
 };
 
-/* A set that owns its lists: where a coefficient file is read into. Its year and its lists are written
- * by one call, all of them or none, so that a year never parts from its lists. */
+/* A set that owns its lists: where a coefficient file or a stored set is read into. Its year and its
+ * lists are written by one call, all of them or none, so that a year never parts from its lists. */
 struct njerumoy_owned_set {
     int32_t epoch_year;
     float g[NJERUMOY_LIST_LENGTH], h[NJERUMOY_LIST_LENGTH];
@@ -33,14 +33,29 @@ static inline uint32_t njerumoy_read_cof_into(struct njerumoy_owned_set *set, co
                              NJERUMOY_LIST_LENGTH, &set->epoch_year, entry, line);
 }
 
+static inline uint32_t njerumoy_read_stored_into(struct njerumoy_owned_set *set,
+                                                 const uint8_t *stored, size_t stored_length,
+                                                 size_t entry[2], size_t *place) {
+    return njerumoy_read_stored(stored, stored_length, set->g, NJERUMOY_LIST_LENGTH, set->h,
+                                NJERUMOY_LIST_LENGTH, set->g_dot, NJERUMOY_LIST_LENGTH, set->h_dot,
+                                NJERUMOY_LIST_LENGTH, &set->epoch_year, entry, place);
+}
+
 /* An owned set as the calls below take it. It points into `set` and has the year of this moment:
- * after another file was read into `set`, lend it anew. */
+ * after another set was read into `set`, lend it anew. */
 static inline struct njerumoy_set njerumoy_lent(const struct njerumoy_owned_set *set) {
     const struct njerumoy_set lent = {
         set->epoch_year, set->g, set->h, set->g_dot, set->h_dot,
         NJERUMOY_LIST_LENGTH, NJERUMOY_LIST_LENGTH, NJERUMOY_LIST_LENGTH, NJERUMOY_LIST_LENGTH,
     };
     return lent;
+}
+
+static inline uint32_t njerumoy_write_stored_with(const struct njerumoy_set *set, uint8_t *stored,
+                                                  size_t stored_length, size_t entry[2]) {
+    return njerumoy_write_stored(set->epoch_year, set->g, set->g_length, set->h, set->h_length,
+                                 set->g_dot, set->g_dot_length, set->h_dot, set->h_dot_length,
+                                 stored, stored_length, entry);
 }
 
 /* Sine and cosine of one angle. */
@@ -92,6 +107,16 @@ static inline uint32_t njerumoy_field_listed_with(const struct njerumoy_set *set
                                  set->epoch_year, set->g, set->g_length, set->h, set->h_length,
                                  set->g_dot, set->g_dot_length, set->h_dot, set->h_dot_length,
                                  records, records_length, xyz, errors, entry, years);
+}
+
+/* The place on earth is `at`; `place` is that in the bytes. */
+static inline uint32_t njerumoy_field_stored_at(const uint8_t *stored, size_t stored_length,
+                                                struct njerumoy_place at, int32_t year,
+                                                int32_t day_of_year, float xyz[3], float errors[8],
+                                                size_t entry[2], int32_t years[2], size_t *place) {
+    return njerumoy_field_stored(stored, stored_length, at.height, at.latitude.sine,
+                                 at.latitude.cosine, at.longitude.sine, at.longitude.cosine, year,
+                                 day_of_year, xyz, errors, entry, years, place);
 }
 
 static inline uint32_t njerumoy_allowance_with(const struct njerumoy_set *set,

@@ -1,7 +1,8 @@
 //! Field and Uncertainty with a lent list of error records, ours and the oracle's, with all that a
-//! call can write.
+//! call can write. Field with a stored set has the same places.
 use njerumoy::{sys, ErrorRecord, Errors};
 use oracle::entries::{components, Place, Refusal, Set};
+use oracle::field::GeomagneticField;
 use oracle::models::WmmErrorModel;
 use oracle::records::{field_listed, uncertainty_listed};
 
@@ -48,21 +49,24 @@ const MARK: u32 = 0xdead_beef;
 /// The places that a call is lent. At first each holds a mark, so that it shows what was written.
 #[derive(Clone, Debug)]
 pub struct Places {
-    xyz: [f32; 3],
-    errors: [f32; 8],
-    entry: [usize; 2],
-    years: [i32; 2],
+    pub(crate) xyz: [f32; 3],
+    pub(crate) errors: [f32; 8],
+    pub(crate) entry: [usize; 2],
+    pub(crate) years: [i32; 2],
+    /// A place in stored bytes.
+    pub(crate) place: usize,
     uncertainty: f32,
 }
 
 impl Places {
-    fn unwritten() -> Places {
+    pub(crate) fn unwritten() -> Places {
         let mark = f32::from_bits(MARK);
         Places {
             xyz: [mark; 3],
             errors: [mark; 8],
             entry: [usize::MAX; 2],
             years: [i32::MIN; 2],
+            place: usize::MAX,
             uncertainty: mark,
         }
     }
@@ -80,7 +84,10 @@ impl Places {
 
 impl PartialEq for Places {
     fn eq(&self, other: &Places) -> bool {
-        self.bits() == other.bits() && self.entry == other.entry && self.years == other.years
+        self.bits() == other.bits()
+            && self.entry == other.entry
+            && self.years == other.years
+            && self.place == other.place
     }
 }
 
@@ -89,10 +96,15 @@ pub type Answer = (u32, Places);
 
 /// An answer in words, its floats by their bits.
 pub fn told((number, places): &Answer) -> String {
-    let Places { entry, years, .. } = places;
+    let Places {
+        entry,
+        years,
+        place,
+        ..
+    } = places;
     let bits = places.bits().map(|bits| format!("{bits:08x}"));
     let floats = bits.join(" ");
-    format!("{number}, floats {floats}, entry {entry:?}, years {years:?}")
+    format!("{number}, floats {floats}, entry {entry:?}, years {years:?}, place {place}")
 }
 
 /// The proved Field with a list.
@@ -195,6 +207,9 @@ fn answer<T>(result: Result<T, Refusal>, write: impl FnOnce(&mut Places, T)) -> 
             match refusal {
                 Refusal::Coefficient { list, index } => places.entry = [list, index],
                 Refusal::OtherEpoch { of_day, of_set } => places.years = [of_day, of_set],
+                Refusal::WrongTag { place }
+                | Refusal::WrongLength { place }
+                | Refusal::WrongEnd { place } => places.place = place,
                 _ => {}
             }
             refusal.number()
@@ -203,11 +218,16 @@ fn answer<T>(result: Result<T, Refusal>, write: impl FnOnce(&mut Places, T)) -> 
     (number, places)
 }
 
-pub fn rust_field(place: &Place, set: &Set, list: &List) -> Answer {
-    answer(field_listed(place, set, &list.rust), |places, field| {
+/// The oracle's answer to a call of Field.
+pub(crate) fn field_answer(result: Result<GeomagneticField, Refusal>) -> Answer {
+    answer(result, |places, field| {
         places.xyz = [field.x, field.y, field.z];
         places.errors = field.error_model.figures();
     })
+}
+
+pub fn rust_field(place: &Place, set: &Set, list: &List) -> Answer {
+    field_answer(field_listed(place, set, &list.rust))
 }
 
 pub fn rust_uncertainty(xyz: [f32; 3], epoch_year: i32, list: &List) -> Answer {

@@ -4,9 +4,10 @@
 //!   bench [ROUNDS]
 mod angles;
 mod cases;
+mod storing;
 
 use bench::listed::{self, List};
-use bench::reading::{self, LENGTH};
+use bench::reading::{COF, LENGTH};
 use bench::timing::{print_head, row};
 use cases::{sets, Both, Components, FieldCase, Random, SumCase};
 use njerumoy::Field;
@@ -235,9 +236,10 @@ fn main() -> ExitCode {
             "a file of 93 lines",
             rounds,
             &files,
-            |text| answered(reading::ours(text, [LENGTH; 4])),
-            |text| answered(reading::rust(text, [LENGTH; 4])),
+            |text| answered(COF.ours(text, [LENGTH; 4])),
+            |text| answered(COF.rust(text, [LENGTH; 4])),
         ),
+        storing::rows(rounds, &fields, &sets),
         angles::rows(&mut random, rounds, &sets),
     ];
     if same.iter().all(|same| *same) {

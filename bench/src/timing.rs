@@ -1,4 +1,5 @@
 //! The time of a call, ours and another side's in turn.
+use std::cell::RefCell;
 use std::hint::black_box;
 use std::time::Instant;
 
@@ -71,12 +72,43 @@ pub fn row_beside<T, A: PartialEq>(
         .iter()
         .filter(|case| ours(case).is_err() || ours(case) != same(case))
         .count();
-    let [ours, other] = both(rounds, &|| time(cases, &ours), &|| time(cases, &other));
+    let times = both(rounds, &|| time(cases, &ours), &|| time(cases, &other));
+    print_row(name, times, differing, cases.len())
+}
+
+/// The same where a call writes much: to compare, each call has places of its own; in time, one after
+/// the other has the same ones.
+pub fn row_lent<T, P: PartialEq>(
+    name: &str,
+    rounds: usize,
+    cases: &[T],
+    unwritten: impl Fn() -> P,
+    ours: impl Fn(&T, &mut P) -> u32,
+    rust: impl Fn(&T, &mut P) -> u32,
+) -> bool {
+    let differs = |case: &&T| {
+        let [mut of_ours, mut of_rust] = [unwritten(), unwritten()];
+        let numbers = [ours(case, &mut of_ours), rust(case, &mut of_rust)];
+        numbers != [0, 0] || of_ours != of_rust
+    };
+    let differing = cases.iter().filter(differs).count();
+    let lent = RefCell::new(unwritten());
+    let call = |case: &T, side: &dyn Fn(&T, &mut P) -> u32| {
+        let places = &mut *lent.borrow_mut();
+        let number = side(case, places);
+        black_box(places);
+        Ok(number)
+    };
+    let times = both(rounds, &|| time(cases, |case| call(case, &ours)), &|| {
+        time(cases, |case| call(case, &rust))
+    });
+    print_row(name, times, differing, cases.len())
+}
+
+/// Prints a row. Gives whether no case differs.
+fn print_row(name: &str, [ours, other]: [f64; 2], differing: usize, cases: usize) -> bool {
     let ratio = ours / other;
-    println!(
-        "{name:<20} {ours:>9.1} {other:>9.1} {ratio:>7.3}   {differing} of {} differ",
-        cases.len()
-    );
+    println!("{name:<20} {ours:>9.1} {other:>9.1} {ratio:>7.3}   {differing} of {cases} differ");
     differing == 0
 }
 

@@ -2,7 +2,8 @@
  * that a place keeps what it held where the call has no result for it. Each question that takes a set
  * is asked in both forms, with loose lists and with the set in one piece, and all that is told must
  * be the same, bit for bit. tools/test-library runs it. test_angles.c has angles in degrees,
- * test_cof.c the coefficient files, and test_records.c the lent error records. */
+ * test_cof.c the coefficient files, test_records.c the lent error records, and test_stored.c and
+ * test_stored_field.c the stored sets. */
 #include "question.h"
 
 static uint32_t ask(struct field *q) {

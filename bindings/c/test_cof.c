@@ -5,20 +5,12 @@
  * data. */
 #include <stdlib.h>
 
-#include "check.h"
+#include "reading.h"
 
 /* A file's bytes. */
 struct text {
     size_t length;
     uint8_t bytes[8192];
-};
-
-/* All that a call is lent. A list has one float more than a set, for a length that is too long. */
-struct reading {
-    float lists[4][N + 1];
-    size_t lengths[4];
-    int32_t epoch_year;
-    size_t entry[2], line;
 };
 
 static struct text file_2020, file_2025;
@@ -72,59 +64,25 @@ static struct text of_bytes(const char *bytes) { return with(&file_2025, 1, 1000
 /* The first lines of the file of 2025. */
 static struct text first_lines(size_t count) { return with(&file_2025, count + 1, 1000, ""); }
 
-static struct reading held(void) {
-    struct reading r;
-    for (int list = 0; list < 4; list++) {
-        r.lengths[list] = N;
-        for (int i = 0; i <= N; i++) r.lists[list][i] = HELD;
-    }
-    r.epoch_year = HELD_YEAR;
-    r.entry[0] = r.entry[1] = r.line = HELD_SIZE;
-    return r;
-}
-
 static uint32_t ask(const struct text *t, struct reading *r) {
     return njerumoy_read_cof(t->bytes, t->length, r->lists[0], r->lengths[0], r->lists[1],
                              r->lengths[1], r->lists[2], r->lengths[2], r->lists[3], r->lengths[3],
-                             &r->epoch_year, r->entry, &r->line);
-}
-
-/* The same bits in a set's four lists and its year. */
-static int same_set(const struct reading *r, const struct njerumoy_set *set) {
-    const float *const lists[4] = {set->g, set->h, set->g_dot, set->h_dot};
-    int same = r->epoch_year == set->epoch_year;
-    for (int i = 0; i < 4; i++) same = same && memcmp(r->lists[i], lists[i], N * sizeof(float)) == 0;
-    return same;
+                             &r->epoch_year, r->entry, &r->where);
 }
 
 /* In both forms, from what each place held. */
 static uint32_t ask_both(const struct text *t, struct reading *r) {
-    struct njerumoy_owned_set own;
+    struct njerumoy_owned_set own = held_set();
     struct reading b = *r = held();
-    own.epoch_year = HELD_YEAR;
-    for (int i = 0; i < N; i++) own.g[i] = own.h[i] = own.g_dot[i] = own.h_dot[i] = HELD;
-    const uint32_t into = njerumoy_read_cof_into(&own, t->bytes, t->length, b.entry, &b.line);
+    const uint32_t into = njerumoy_read_cof_into(&own, t->bytes, t->length, b.entry, &b.where);
     const uint32_t told = ask(t, r);
-    const struct njerumoy_set set = njerumoy_lent(&own);
-    CHECK(set.g_length == N && set.h_length == N && set.g_dot_length == N && set.h_dot_length == N);
-    CHECK(told == into && same_set(r, &set) && r->line == b.line);
-    CHECK(memcmp(r->entry, b.entry, sizeof b.entry) == 0);
+    CHECK(told == into && told_alike(r, &own, &b));
     return told;
-}
-
-/* The lists and the year as they were; `entry` and `line` too, but for what the refusal carries. */
-static int kept(const struct reading *r, uint32_t number) {
-    const struct reading before = held();
-    const int line_told = number == NJERUMOY_MALFORMED || number == NJERUMOY_OUT_OF_ORDER;
-    return memcmp(r->lists, before.lists, sizeof before.lists) == 0 && r->epoch_year == HELD_YEAR &&
-           (line_told || r->line == HELD_SIZE) &&
-           (number == NJERUMOY_COEFFICIENT ||
-            (r->entry[0] == HELD_SIZE && r->entry[1] == HELD_SIZE));
 }
 
 static int refused(struct text t, uint32_t number, size_t line) {
     struct reading r;
-    return ask_both(&t, &r) == number && kept(&r, number) && r.line == line;
+    return ask_both(&t, &r) == number && kept(&r, number) && r.where == line;
 }
 
 static int refused_entry(struct text t, size_t list, size_t index) {
@@ -136,8 +94,8 @@ static int refused_entry(struct text t, size_t list, size_t index) {
 /* All 90 numbers of each list and the year, bit for bit, and nothing else is written. */
 static int reads(struct text t, const struct njerumoy_set *set) {
     struct reading r;
-    return ask_both(&t, &r) == NJERUMOY_ANSWER && same_set(&r, set) && r.line == HELD_SIZE &&
-           r.entry[0] == HELD_SIZE && r.entry[1] == HELD_SIZE && r.lists[0][N] == HELD;
+    return ask_both(&t, &r) == NJERUMOY_ANSWER && same_set(&r, set) && kept_carried(&r) &&
+           r.lists[0][N] == HELD;
 }
 
 static void test_published(void) {

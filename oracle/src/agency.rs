@@ -1,6 +1,7 @@
 //! The agency's coefficient file, WMM.COF: a header, 90 coefficient lines, and lines of nines.
 //! README.md has the whole rule.
-use crate::entries::{check_entries, Refusal};
+use crate::entries::Refusal;
+use crate::reading::{read_into, Found};
 use crate::synthesis::{N_COEFF, N_MAX};
 use std::str;
 
@@ -117,7 +118,7 @@ fn is_nines(line: &[u8]) -> bool {
 }
 
 /// The epoch year and the four lists of a file. Refusals 13 and 14, at the first line that has one.
-fn read_lines(text: &[u8]) -> Result<(i32, [[f32; N_COEFF]; 4]), Refusal> {
+fn read_lines(text: &[u8]) -> Result<Found, Refusal> {
     let mut lines = Lines {
         rest: text,
         taken: 0,
@@ -151,14 +152,5 @@ pub fn read_cof(
     g_dot: &mut [f32],
     h_dot: &mut [f32],
 ) -> Result<i32, Refusal> {
-    let lists = [g, h, g_dot, h_dot];
-    if lists.iter().any(|list| list.len() != N_COEFF) {
-        return Err(Refusal::Length);
-    }
-    let (epoch_year, read) = read_lines(text)?;
-    check_entries(read.each_ref())?;
-    for (list, read) in lists.into_iter().zip(&read) {
-        list.copy_from_slice(read);
-    }
-    Ok(epoch_year)
+    read_into([g, h, g_dot, h_dot], || read_lines(text))
 }

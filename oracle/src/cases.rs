@@ -14,6 +14,7 @@ mod places;
 pub mod records;
 mod rng;
 mod south;
+pub mod stored;
 mod strengths;
 mod values;
 
@@ -49,6 +50,8 @@ pub enum Kind {
     Dir,
     Fdeg,
     South,
+    Sread,
+    Swrite,
 }
 
 /// Every kind of a list of all kinds, its name on the command line, and its share of a mixed list. A
@@ -67,9 +70,9 @@ pub const KINDS: [(Kind, &str, usize); 10] = [
 ];
 
 /// The kinds that come only where they are named: those with lists of error records, those with
-/// angles in degrees, and those for due south. So a list of all kinds from a seed is what it was before
-/// there were such lines.
-pub const NAMED_KINDS: [(Kind, &str, usize); 7] = [
+/// angles in degrees, those for due south, and those with stored sets. So a list of all kinds from a
+/// seed is what it was before there were such lines.
+pub const NAMED_KINDS: [(Kind, &str, usize); 9] = [
     (Kind::Flist, "FLIST", 60),
     (Kind::Ulist, "ULIST", 60),
     (Kind::Trig, "TRIG", 60),
@@ -77,6 +80,8 @@ pub const NAMED_KINDS: [(Kind, &str, usize); 7] = [
     (Kind::Dir, "DIR", 60),
     (Kind::Fdeg, "FDEG", 60),
     (Kind::South, "SOUTH", 60),
+    (Kind::Sread, "SREAD", 60),
+    (Kind::Swrite, "SWRITE", 60),
 ];
 
 pub struct Generator {
@@ -110,6 +115,7 @@ pub struct Generator {
     gv_ways: [usize; 3],
     listed_walks: listed::Walks,
     degree_walks: degrees::Walks,
+    stored_walks: stored::Walks,
 }
 
 impl Generator {
@@ -171,6 +177,7 @@ impl Generator {
             gv_ways,
             listed_walks: listed::Walks::new(seed),
             degree_walks,
+            stored_walks: stored::Walks::new(seed),
         }
     }
 
@@ -179,9 +186,7 @@ impl Generator {
         if NAMED_KINDS.iter().any(|named| named.0 == kind) {
             return self.named_line(kind, out);
         }
-        let walk = &mut self.walks[kind as usize];
-        let planned = self.rng.once_in(if walk.is_through() { 8 } else { 2 });
-        let place = if planned { Some(walk.next()) } else { None };
+        let place = self.walks[kind as usize].turn(&mut self.rng);
         let case = match kind {
             Kind::Sum => self.sum_case(place, out),
             Kind::Field => self.field_case(place, out),
@@ -212,6 +217,7 @@ impl Generator {
         match kind {
             Kind::Flist | Kind::Ulist => Case::Listed(self.listed(kind, out)),
             Kind::South => self.south_case(),
+            Kind::Sread | Kind::Swrite => self.stored_case(kind, out),
             _ => Case::InDegrees(self.in_degrees(kind, out)),
         }
     }

@@ -45,6 +45,14 @@ pub enum Refusal {
     NoErrorRecord,
     /// 16
     Angle,
+    /// 17: the place of the tag in the stored bytes, from 0.
+    WrongTag { place: usize },
+    /// 18: the place of the length's first byte.
+    WrongLength { place: usize },
+    /// 19: where the bytes end too soon, or where the first byte left over stands.
+    WrongEnd { place: usize },
+    /// 20
+    NoRoom,
 }
 
 impl Refusal {
@@ -67,6 +75,10 @@ impl Refusal {
             Refusal::OutOfOrder { .. } => 14,
             Refusal::NoErrorRecord => 15,
             Refusal::Angle => 16,
+            Refusal::WrongTag { .. } => 17,
+            Refusal::WrongLength { .. } => 18,
+            Refusal::WrongEnd { .. } => 19,
+            Refusal::NoRoom => 20,
         }
     }
 }
@@ -90,6 +102,11 @@ impl Set {
                 model.h_dot.to_vec(),
             ],
         }
+    }
+
+    /// The four lists as slices.
+    pub fn slices(&self) -> [&[f32]; 4] {
+        self.lists.each_ref().map(Vec::as_slice)
     }
 }
 
@@ -124,8 +141,8 @@ fn outside_of_validity_range() -> Refusal {
 }
 
 /// Refusal 6, then refusal 7 at the first bad place. Gives the four lists, each 90 long.
-fn check_lists(lists: &[Vec<f32>; 4]) -> Result<[&[f32; N_COEFF]; 4], Refusal> {
-    let whole = |i: usize| <&[f32; N_COEFF]>::try_from(&lists[i][..]).map_err(|_| Refusal::Length);
+pub fn check_lists(lists: [&[f32]; 4]) -> Result<[&[f32; N_COEFF]; 4], Refusal> {
+    let whole = |i: usize| <&[f32; N_COEFF]>::try_from(lists[i]).map_err(|_| Refusal::Length);
     let whole = [whole(0)?, whole(1)?, whole(2)?, whole(3)?];
     check_entries(whole)?;
     Ok(whole)
@@ -155,6 +172,32 @@ pub fn field(
     day: i32,
     set: &Set,
 ) -> Result<GeomagneticField, Refusal> {
+    field_by(
+        height,
+        sin_phi,
+        cos_phi,
+        sin_lambda,
+        cos_lambda,
+        year,
+        day,
+        set.epoch_year,
+        set.slices(),
+    )
+}
+
+/// The same with the epoch year and the four lists of a set.
+#[allow(clippy::too_many_arguments)]
+fn field_by(
+    height: f32,
+    sin_phi: f32,
+    cos_phi: f32,
+    sin_lambda: f32,
+    cos_lambda: f32,
+    year: i32,
+    day: i32,
+    set_year: i32,
+    lists: [&[f32]; 4],
+) -> Result<GeomagneticField, Refusal> {
     if !within(height, MIN_HEIGHT_M, MAX_HEIGHT_M) {
         return Err(Refusal::Height {
             min_km: MIN_HEIGHT_KM,
@@ -168,14 +211,14 @@ pub fn field(
         return Err(Refusal::Longitude);
     }
     let (epoch_year, time_delta) = epoch(year, day)?;
-    if error_model_by_epoch_year(set.epoch_year).is_none() {
+    if error_model_by_epoch_year(set_year).is_none() {
         return Err(outside_of_validity_range());
     }
-    let [g, h, g_dot, h_dot] = check_lists(&set.lists)?;
-    if set.epoch_year != epoch_year {
+    let [g, h, g_dot, h_dot] = check_lists(lists)?;
+    if set_year != epoch_year {
         return Err(Refusal::OtherEpoch {
             of_day: epoch_year,
-            of_set: set.epoch_year,
+            of_set: set_year,
         });
     }
     let error_model =
@@ -206,7 +249,12 @@ pub struct Place {
 impl Place {
     /// Field at this place and day.
     pub fn field(&self, set: &Set) -> Result<GeomagneticField, Refusal> {
-        field(
+        self.field_by(set.epoch_year, set.slices())
+    }
+
+    /// The same with the epoch year and the four lists of a set.
+    pub fn field_by(&self, set_year: i32, lists: [&[f32]; 4]) -> Result<GeomagneticField, Refusal> {
+        field_by(
             self.height,
             self.sin_phi,
             self.cos_phi,
@@ -214,7 +262,8 @@ impl Place {
             self.cos_lambda,
             self.year,
             self.day,
-            set,
+            set_year,
+            lists,
         )
     }
 }
@@ -241,7 +290,7 @@ pub fn sum(
     if !within(offset, 0.0, MAX_OFFSET) {
         return Err(Refusal::Offset);
     }
-    let [g, h, g_dot, h_dot] = check_lists(lists)?;
+    let [g, h, g_dot, h_dot] = check_lists(lists.each_ref().map(Vec::as_slice))?;
     Ok(synthesize_geocentric_xyz(
         cos_theta, sin_theta, sin_lambda, cos_lambda, ratio, g, h, g_dot, h_dot, offset,
     ))

@@ -10,6 +10,12 @@ pub const MARK: &[u8] = b" = ";
 pub const MALFORMED: &[u8] = b"malformed";
 /// The longest list that a SET line can say.
 pub const MAX_COUNT: usize = 128;
+/// The most digits of a list's length, and of a room.
+pub const COUNT_DIGITS: usize = 3;
+const ROOM_DIGITS: usize = 4;
+
+/// The most bytes of a stored set that a line can say, or ask room for.
+pub const MAX_STORED: usize = 4000;
 
 /// The byte that stands for a newline in the text of a COF line.
 pub const NEWLINE: u8 = b';';
@@ -52,6 +58,14 @@ pub enum Case<'a> {
     /// A file, as it stands in the line.
     Cof {
         text: &'a [u8],
+    },
+    /// A stored set.
+    Sread {
+        stored: Vec<u8>,
+    },
+    /// So many bytes for the set in force.
+    Swrite {
+        room: usize,
     },
     /// FLIST or ULIST.
     Listed(Listed),
@@ -118,14 +132,25 @@ impl<'a> Words<'a> {
         i32::try_from(if minus { -size } else { size }).ok()
     }
 
-    /// 1 to 3 digits, 0 to `most`.
-    pub fn count(&mut self, most: usize) -> Option<usize> {
-        let count = decimal(self.word()?, 3)? as usize;
+    /// 1 to `digits` digits, 0 to `most`.
+    pub fn count(&mut self, digits: usize, most: usize) -> Option<usize> {
+        let count = decimal(self.word()?, digits)? as usize;
         Some(count).filter(|count| *count <= most)
     }
 
+    /// 0 to 4000 bytes, each of two hex digits, small or capital.
+    fn stored(&mut self) -> Option<Vec<u8>> {
+        let word = self.word()?;
+        if word.len() % 2 != 0 || word.len() > 2 * MAX_STORED {
+            return None;
+        }
+        let digit = |byte: u8| char::from(byte).to_digit(16);
+        let byte = |pair: &[u8]| Some((digit(pair[0])? * 16 + digit(pair[1])?) as u8);
+        word.chunks_exact(2).map(byte).collect()
+    }
+
     fn list(&mut self) -> Option<Vec<f32>> {
-        let count = self.count(MAX_COUNT)?;
+        let count = self.count(COUNT_DIGITS, MAX_COUNT)?;
         (0..count).map(|_| self.float()).collect()
     }
 
@@ -200,6 +225,12 @@ pub fn parse_case(question: &[u8]) -> Option<Case<'_>> {
         b"COF" => Case::Cof {
             text: words.rest()?,
         },
+        b"SREAD" => Case::Sread {
+            stored: words.stored()?,
+        },
+        b"SWRITE" => Case::Swrite {
+            room: words.count(ROOM_DIGITS, MAX_STORED)?,
+        },
         b"FLIST" => Case::Listed(Listed::field(&mut words)?),
         b"ULIST" => Case::Listed(Listed::uncertainty(&mut words)?),
         name => Case::InDegrees(InDegrees::read(name, &mut words)?),
@@ -220,13 +251,19 @@ pub fn parse_set(line: &[u8]) -> Option<Set> {
     words.end(set)
 }
 
+/// Writes two hex digits a byte.
+fn put_bytes(out: &mut Vec<u8>, bytes: &[u8]) {
+    const DIGITS: &[u8; 16] = b"0123456789abcdef";
+    for byte in bytes {
+        out.push(DIGITS[usize::from(byte >> 4)]);
+        out.push(DIGITS[usize::from(byte & 15)]);
+    }
+}
+
 /// Writes a space and 8 hex digits.
 pub fn put_hex(out: &mut Vec<u8>, bits: u32) {
-    const DIGITS: &[u8; 16] = b"0123456789abcdef";
     out.push(b' ');
-    for place in (0..8).rev() {
-        out.push(DIGITS[(bits >> (4 * place)) as usize % 16]);
-    }
+    put_bytes(out, &bits.to_be_bytes());
 }
 
 /// Writes a space and the 8 hex digits of a float.
@@ -290,6 +327,14 @@ pub fn put_case(out: &mut Vec<u8>, case: &Case) {
         Case::Dec { word } => put_text(out, b"DEC ", word),
         Case::Whole { word } => put_text(out, b"WHOLE ", word),
         Case::Cof { text } => put_text(out, b"COF ", text),
+        Case::Sread { ref stored } => {
+            out.extend_from_slice(b"SREAD ");
+            put_bytes(out, stored);
+        }
+        Case::Swrite { room } => {
+            out.extend_from_slice(b"SWRITE");
+            put_int(out, room as i32);
+        }
         Case::Listed(ref listed) => listed.put(out),
         Case::InDegrees(asked) => asked.put(out),
     }
@@ -337,6 +382,9 @@ pub fn put_refusal(out: &mut Vec<u8>, refusal: &Refusal) {
             put_int(out, of_set);
         }
         Refusal::Malformed { line } | Refusal::OutOfOrder { line } => put_int(out, line as i32),
+        Refusal::WrongTag { place }
+        | Refusal::WrongLength { place }
+        | Refusal::WrongEnd { place } => put_int(out, place as i32),
         _ => {}
     }
 }

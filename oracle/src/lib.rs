@@ -12,11 +12,13 @@ pub mod listed;
 pub mod machine;
 pub mod models;
 pub mod published;
+pub mod reading;
 pub mod records;
 pub mod replay;
 pub mod roots;
 pub mod sets;
 pub mod south;
+pub mod stored;
 pub mod synthesis;
 #[cfg(test)]
 mod tests;

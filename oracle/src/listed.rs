@@ -1,7 +1,7 @@
 //! The case lines FLIST and ULIST: questions that lend a list of error records. README.md has the
 //! forms. All that reads, writes and answers them stands here.
 use crate::entries::{components, Place, Refusal, Set};
-use crate::format::{put_float, put_floats, put_int, put_place, Words};
+use crate::format::{put_float, put_floats, put_int, put_place, Words, COUNT_DIGITS};
 use crate::models::WmmErrorModel;
 use crate::records::{field_listed, uncertainty_listed};
 use crate::replay::put_field;
@@ -26,7 +26,7 @@ pub struct Listed {
 
 /// A count, then nine words a record: its year and its eight figures.
 fn read_records(words: &mut Words) -> Option<Vec<WmmErrorModel>> {
-    let count = words.count(MAX_RECORDS)?;
+    let count = words.count(COUNT_DIGITS, MAX_RECORDS)?;
     let mut records = Vec::with_capacity(count);
     for _ in 0..count {
         let epoch_year = words.int()?;

@@ -10,6 +10,7 @@ use crate::format::{
     parse_case, parse_set, put_case, put_float, put_floats, put_hex, put_int, put_refusal, put_set,
     Case, MALFORMED, MARK, NEWLINE,
 };
+use crate::stored::{read_stored, write_stored};
 use crate::synthesis::N_COEFF;
 use std::io::{self, BufRead, Write};
 
@@ -89,6 +90,10 @@ pub fn put_answer(out: &mut Vec<u8>, case: &Case, set: &Set) {
         Case::Dec { word } => put_word(out, number(word).map(f32::to_bits)),
         Case::Whole { word } => put_word(out, whole(word).map(|value| value as u32)),
         Case::Cof { text } => put_file(out, text),
+        Case::Sread { ref stored } => put_read(out, |g, h, g_dot, h_dot| {
+            read_stored(stored, g, h, g_dot, h_dot)
+        }),
+        Case::Swrite { room } => put_written(out, set, room),
         _ => {
             let start = out.len();
             out.push(b'0');
@@ -111,32 +116,53 @@ fn put_word(out: &mut Vec<u8>, bits: Option<u32>) {
     }
 }
 
-/// What the lists hold before a file is read, by its bits: the largest finite f32.
+/// What the lists hold before they are read into, by its bits: the largest finite f32.
 const UNREAD: u32 = 0x7f7f_ffff;
 
-/// Writes 0 and the epoch year of a file, or the refusal; then the sum of the four lists after it.
+/// Writes the answer to a file.
 fn put_file(out: &mut Vec<u8>, text: &[u8]) {
     let newlines = |byte: &u8| if *byte == NEWLINE { b'\n' } else { *byte };
     let text: Vec<u8> = text.iter().map(newlines).collect();
+    put_read(out, |g, h, g_dot, h_dot| {
+        read_cof(&text, g, h, g_dot, h_dot)
+    });
+}
+
+/// Writes 0 and the epoch year that was read, or the refusal; then the sum of the four lists after it.
+fn put_read(
+    out: &mut Vec<u8>,
+    read: impl FnOnce(&mut [f32], &mut [f32], &mut [f32], &mut [f32]) -> Result<i32, Refusal>,
+) {
     let mut lists = [[f32::from_bits(UNREAD); N_COEFF]; 4];
     let [g, h, g_dot, h_dot] = &mut lists;
-    match read_cof(&text, g, h, g_dot, h_dot) {
+    match read(g, h, g_dot, h_dot) {
         Ok(epoch_year) => put_word(out, Some(epoch_year as u32)),
         Err(refusal) => put_refusal(out, &refusal),
     }
-    let sum = sum_of(&lists);
-    put_hex(out, (sum >> 32) as u32);
-    put_hex(out, sum as u32);
+    put_sum(out, lists.iter().flatten().map(|x| x.to_bits()));
 }
 
-/// 64 bits that tell four lists from others: the hash FNV-1a, taken by whole floats.
-fn sum_of(lists: &[[f32; N_COEFF]; 4]) -> u64 {
-    lists
-        .iter()
-        .flatten()
-        .fold(0xcbf2_9ce4_8422_2325, |sum, x| {
-            (sum ^ u64::from(x.to_bits())).wrapping_mul(0x100_0000_01b3)
-        })
+/// What the bytes hold before a set is written.
+const UNWRITTEN: u8 = 0xa5;
+
+/// Writes 0 or the refusal of a set that is stored in this room; then the sum of the bytes after it.
+fn put_written(out: &mut Vec<u8>, set: &Set, room: usize) {
+    let mut bytes = vec![UNWRITTEN; room];
+    let [g, h, g_dot, h_dot] = set.slices();
+    match write_stored(set.epoch_year, g, h, g_dot, h_dot, &mut bytes) {
+        Ok(()) => out.push(b'0'),
+        Err(refusal) => put_refusal(out, &refusal),
+    }
+    put_sum(out, bytes.into_iter().map(u32::from));
+}
+
+/// Writes 64 bits that tell floats or bytes from others: the hash FNV-1a, taken by whole parts.
+fn put_sum(out: &mut Vec<u8>, parts: impl Iterator<Item = u32>) {
+    let sum = parts.fold(0xcbf2_9ce4_8422_2325_u64, |sum, part| {
+        (sum ^ u64::from(part)).wrapping_mul(0x100_0000_01b3)
+    });
+    put_hex(out, (sum >> 32) as u32);
+    put_hex(out, sum as u32);
 }
 
 fn put_result(out: &mut Vec<u8>, case: &Case, set: &Set) -> Result<(), Refusal> {
@@ -189,9 +215,11 @@ fn put_result(out: &mut Vec<u8>, case: &Case, set: &Set) -> Result<(), Refusal> 
         Case::Sqrt { x } => put_float(out, square_root(x)?),
         Case::Listed(ref listed) => listed.put_result(out, set)?,
         Case::InDegrees(asked) => asked.put_result(out, set)?,
-        Case::Dec { .. } | Case::Whole { .. } | Case::Cof { .. } => {
-            unreachable!("put_answer answers these by itself")
-        }
+        Case::Dec { .. }
+        | Case::Whole { .. }
+        | Case::Cof { .. }
+        | Case::Sread { .. }
+        | Case::Swrite { .. } => unreachable!("put_answer answers these by itself"),
     }
     Ok(())
 }

@@ -1,5 +1,5 @@
 //! Tests: the worked examples of document 01, the refusals and their order, the agency's file, lists
-//! of error records, angles in degrees, due south, the line format, and the generated cases.
+//! of error records, angles in degrees, due south, stored sets, the line format, and the generated cases.
 mod agency;
 mod angles;
 mod degrees;
@@ -10,6 +10,8 @@ mod paper;
 mod records;
 mod refusals;
 mod south;
+mod stored;
+mod stored_lines;
 mod words;
 
 use crate::entries::Set;

@@ -4,7 +4,7 @@
 //! each reader.
 //!
 //!   files [COUNT]     COUNT random files (300000)
-use bench::reading::{ours, rust, Answer, Places, LENGTH, LONGEST};
+use bench::reading::{Answer, COF, LENGTH, LONGEST};
 use bench::tally::Tally;
 use oracle::cases::Generator;
 use oracle::layout::{published_file, SPOILING};
@@ -18,44 +18,7 @@ const RANDOM: usize = 300_000;
 const GOOD: [usize; 4] = [LENGTH; 4];
 
 fn compare(tally: &mut Tally, name: &str, text: &[u8]) {
-    compare_with(tally, name, text, GOOD);
-}
-
-fn compare_with(tally: &mut Tally, name: &str, text: &[u8], lengths: [usize; 4]) {
-    let (our, their) = (ours(text, lengths), rust(text, lengths));
-    let same = our == their && (our.0 == 0 || left_alone(&our.1));
-    tally.count(their.0, same, || {
-        let lists = match our.1.first_other(&their.1) {
-            Some((list, index)) => {
-                format!("\n  the lists differ, first at list {list}, index {index}")
-            }
-            None => String::new(),
-        };
-        format!(
-            "{name}:\n  ours {}\n  Rust {}{lists}",
-            told(&our),
-            told(&their)
-        )
-    });
-}
-
-fn left_alone(places: &Places) -> bool {
-    places.lists.iter().flatten().all(|x| *x == f32::MAX)
-}
-
-fn told((number, places): &Answer) -> String {
-    let Places {
-        epoch_year,
-        entry,
-        line,
-        ..
-    } = places;
-    let lists = if left_alone(places) {
-        "left alone"
-    } else {
-        "written"
-    };
-    format!("{number}, year {epoch_year}, entry {entry:?}, line {line}, lists {lists}")
+    COF.compare(tally, name, text, GOOD);
 }
 
 /// Each byte deleted, doubled, and replaced by each of the spoiling bytes.
@@ -128,7 +91,7 @@ fn lengths(tally: &mut Tally, text: &[u8]) {
             for length in 0..=LONGEST {
                 let mut lengths = GOOD;
                 lengths[list] = length;
-                compare_with(tally, &format!("list {list} of {length}"), file, lengths);
+                COF.compare(tally, &format!("list {list} of {length}"), file, lengths);
             }
         }
     }
@@ -175,10 +138,10 @@ fn words(tally: &mut Tally, text: &[u8]) {
 }
 
 /// Milliseconds of a call, the least of five.
-fn milliseconds(text: &[u8], call: fn(&[u8], [usize; 4]) -> Answer) -> f64 {
+fn milliseconds(text: &[u8], call: fn(&[u8]) -> Answer) -> f64 {
     let times = (0..5).map(|_| {
         let began = Instant::now();
-        black_box(call(black_box(text), GOOD));
+        black_box(call(black_box(text)));
         began.elapsed().as_secs_f64() * 1e3
     });
     times.fold(f64::INFINITY, f64::min)
@@ -227,6 +190,8 @@ fn long_files(tally: &mut Tally, text: &[u8]) {
         for text in &texts {
             compare(tally, name, text);
         }
+        let ours = |text: &[u8]| COF.ours(text, GOOD);
+        let rust = |text: &[u8]| COF.rust(text, GOOD);
         let [a, b] = texts.each_ref().map(|text| milliseconds(text, ours));
         let [c, d] = texts.each_ref().map(|text| milliseconds(text, rust));
         println!("{name:<32} {a:>9.2} {b:>9.2} {c:>9.2} {d:>9.2} ms");

@@ -3,7 +3,8 @@
 //! answers. It needs no standard library and no other crate.
 //!
 //! `field_in_degrees` takes a place in degrees. The other calls take an angle by its sine and cosine:
-//! `sine_and_cosine` makes this `Pair` from degrees, or lend your own.
+//! `sine_and_cosine` makes this `Pair` from degrees, or lend your own. `field_stored` takes the set as
+//! stored bytes.
 #![no_std]
 
 mod angles;
@@ -11,6 +12,7 @@ mod owned;
 pub mod published;
 mod records;
 mod refusal;
+mod stored;
 #[doc(hidden)] // for the comparison in bench/, which lends lists of every length
 pub mod sys;
 
@@ -19,6 +21,7 @@ pub use owned::{OwnedSet, LIST_LENGTH};
 pub use records::{field_listed, ErrorRecord, Errors};
 use refusal::Carried;
 pub use refusal::{List, Refusal};
+pub use stored::{field_stored, StoredSet, STORED_LENGTH};
 
 /// Sine and cosine of one angle.
 #[derive(Copy, Clone, Debug, PartialEq)]

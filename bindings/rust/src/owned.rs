@@ -1,4 +1,4 @@
-//! A coefficient set that owns its lists: what is read from a coefficient file.
+//! A coefficient set that owns its lists: what is read from a coefficient file or a stored set.
 use crate::refusal::{Carried, Refusal};
 use crate::{sys, Set};
 
@@ -6,7 +6,7 @@ use crate::{sys, Set};
 pub const LIST_LENGTH: usize = 90;
 
 /// A coefficient set that owns its lists; `as_set` lends it to the calls. Its year and its lists come
-/// from one file.
+/// from one file or one stored set.
 #[derive(Clone, Debug, PartialEq)]
 pub struct OwnedSet {
     pub epoch_year: i32,
@@ -19,17 +19,20 @@ pub struct OwnedSet {
 }
 
 impl OwnedSet {
+    /// What the library reads into.
+    pub(crate) const ZEROS: OwnedSet = OwnedSet {
+        epoch_year: 0,
+        g: [0.0; LIST_LENGTH],
+        h: [0.0; LIST_LENGTH],
+        g_dot: [0.0; LIST_LENGTH],
+        h_dot: [0.0; LIST_LENGTH],
+    };
+
     /// Reads the bytes of the agency's file WMM.COF; include/njerumoy.h says what a file is. Refusals
     /// 13 and 14 of the first line that is refused, then 7. Any whole epoch year is read: `field`
     /// refuses by 5 or 8.
     pub fn read_cof(text: &[u8]) -> Result<OwnedSet, Refusal> {
-        let mut set = OwnedSet {
-            epoch_year: 0,
-            g: [0.0; LIST_LENGTH],
-            h: [0.0; LIST_LENGTH],
-            g_dot: [0.0; LIST_LENGTH],
-            h_dot: [0.0; LIST_LENGTH],
-        };
+        let mut set = OwnedSet::ZEROS;
         let mut carried = Carried::default();
         // SAFETY: each pointer and length are those of one slice or array; the places are locals, or
         // fields of one.

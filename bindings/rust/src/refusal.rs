@@ -1,5 +1,5 @@
 //! Why a call gives no answer.
-use crate::Day;
+use crate::{Day, STORED_LENGTH};
 use core::fmt;
 
 /// Which of the four lists of a set.
@@ -57,6 +57,15 @@ pub enum Refusal {
     NoErrorRecord,
     /// 16
     Angle,
+    /// 17: the tag's place in the stored bytes, from 0.
+    WrongTag { place: usize },
+    /// 18: the place of the length's first byte, from 0.
+    WrongLength { place: usize },
+    /// 19: the number of the bytes where they are cut short, and `STORED_LENGTH` where bytes are left
+    /// over.
+    WrongEnd { place: usize },
+    /// 20
+    NoRoom,
 }
 
 /// The places that a call lends for what a refusal carries. One that it does not lend stays 0.
@@ -65,13 +74,19 @@ pub(crate) struct Carried {
     pub entry: [usize; 2],
     pub years: [i32; 2],
     pub line: usize,
+    pub place: usize,
 }
 
 impl Refusal {
     /// The refusal of a number that is not 0.
     #[cold]
     pub(crate) fn of(number: u32, carried: Carried) -> Refusal {
-        let Carried { entry, years, line } = carried;
+        let Carried {
+            entry,
+            years,
+            line,
+            place,
+        } = carried;
         match number {
             1 => Refusal::Height {
                 min_km: -1.0,
@@ -111,11 +126,15 @@ impl Refusal {
             13 => Refusal::Malformed { line },
             14 => Refusal::OutOfOrder { line },
             15 => Refusal::NoErrorRecord,
-            _ => Refusal::Angle,
+            16 => Refusal::Angle,
+            17 => Refusal::WrongTag { place },
+            18 => Refusal::WrongLength { place },
+            19 => Refusal::WrongEnd { place },
+            _ => Refusal::NoRoom,
         }
     }
 
-    /// The number, 1 to 16.
+    /// The number, 1 to 20.
     pub fn number(&self) -> u32 {
         match self {
             Refusal::Height { .. } => 1,
@@ -134,6 +153,10 @@ impl Refusal {
             Refusal::OutOfOrder { .. } => 14,
             Refusal::NoErrorRecord => 15,
             Refusal::Angle => 16,
+            Refusal::WrongTag { .. } => 17,
+            Refusal::WrongLength { .. } => 18,
+            Refusal::WrongEnd { .. } => 19,
+            Refusal::NoRoom => 20,
         }
     }
 }
@@ -177,6 +200,21 @@ impl fmt::Display for Refusal {
             Refusal::Angle => {
                 f.write_str("the angle is not finite, or not from -180 to 180 degrees")
             }
+            Refusal::WrongTag { place } => {
+                write!(f, "byte {place} of the stored set is not the tag that is due")
+            }
+            Refusal::WrongLength { place } => {
+                write!(f, "the length at byte {place} of the stored set is not that of its field")
+            }
+            Refusal::WrongEnd { place } if *place < STORED_LENGTH => {
+                write!(f, "the stored set is cut short: it ends before byte {place}")
+            }
+            Refusal::WrongEnd { place } => {
+                write!(f, "byte {place} is left over behind the stored set")
+            }
+            Refusal::NoRoom => f.write_str(
+                "there is no room for the stored set, or its epoch year is not from 0 to 65535",
+            ),
         }
     }
 }

@@ -14,15 +14,16 @@ use Rattle.refusals.specs.declared.Refusal.{Refusal}
 use Rattle.refusals.specs.declared.Refusal.the-variants.{Length}
 use Rattle.refusals.specs.declared.Verdict.{Verdict}
 use Rattle.refusals.specs.declared.Verdict.the-variants as Verdict
-use Rattle.refusals.proofs.Laws.{no-answer}
+use Rattle.refusals.proofs.Laws.{no-answer, no-refusal}
 use Rattle.tables.specs.Degree.{N-COEFF}
 use Rattle.lists.specs.Lists.{long}
 use Rattle.text.specs.Lines.{lines}
-use Rattle.agency.specs.declared.ReadAnswer.{ReadAnswer}
-use Rattle.agency.specs.declared.ReadAnswer.the-variants as ReadAnswer
+use Rattle.lists.specs.declared.ReadAnswer.{ReadAnswer}
+use Rattle.lists.specs.declared.ReadAnswer.the-variants as ReadAnswer
 use Rattle.agency.specs.declared.entries.Entry.{Entry}
-use Rattle.agency.specs.Cof.{CofSet, Lists, cofSays, columns, fileSays, first, headerSays, afterwards, left, lists-of, readOf, rowsSay, said, setVerdict}
-use Rattle.agency.specs.Code.{Filled, Ninety, RowsFilled}
+use Rattle.lists.specs.Sets.{Lists, ModelSet, Ninety, afterwards, left, lists-of, said, setVerdict}
+use Rattle.agency.specs.Cof.{cofSays, columns, fileSays, first, headerSays, readOf, rowsSay}
+use Rattle.agency.specs.Code.{Filled, RowsFilled}
 
 -- ---- the file
 module _ (ls : List (List ℕ)) (l : Lists) where
@@ -31,7 +32,7 @@ module _ (ls : List (List ℕ)) (l : Lists) where
   at-once k e = rw e
 
   pub no-file : (k : Refusal) → headerSays ls ≡ paper k → Filled (fileSays ls) (paper k) l
-  no-file k e = subst (λ (p : Paper CofSet). Filled p (paper k) l) (sym (at-once k e)) refl
+  no-file k e = subst (λ (p : Paper ModelSet). Filled p (paper k) l) (sym (at-once k e)) refl
 
   module _ (y : ℤ) (rest : List (List ℕ)) (e : headerSays ls ≡ answered (y, rest)) where
     -- what is said once the header is read
@@ -40,26 +41,18 @@ module _ (ls : List (List ℕ)) (l : Lists) where
     behind = rw e
 
     pub bad-lines : (k : Refusal) → RowsFilled (rowsSay N-COEFF 2 first rest) (Verdict.Refused k) l → Filled (fileSays ls) (paper k) l
-    bad-lines k f = subst (λ (p : Paper CofSet). Filled p (paper k) l) (sym behind) (go (rowsSay N-COEFF 2 first rest) f)
+    bad-lines k f = subst (λ (p : Paper ModelSet). Filled p (paper k) l) (sym behind) (go (rowsSay N-COEFF 2 first rest) f)
       where
         go : (q : Paper (List Entry)) → RowsFilled q (Verdict.Refused k) l → Filled (after q (λ es. answered (record { year = y; lists = columns es }))) (paper k) l
         go (answered es) h = absurd h
         go (refused n f z) h = h
 
     pub good-lines : RowsFilled (rowsSay N-COEFF 2 first rest) Verdict.Accepted l → Filled (fileSays ls) (answered y) l
-    good-lines f = subst (λ (p : Paper CofSet). Filled p (answered y) l) (sym behind) (go (rowsSay N-COEFF 2 first rest) f)
+    good-lines f = subst (λ (p : Paper ModelSet). Filled p (answered y) l) (sym behind) (go (rowsSay N-COEFF 2 first rest) f)
       where
         go : (q : Paper (List Entry)) → RowsFilled q Verdict.Accepted l → Filled (after q (λ es. answered (record { year = y; lists = columns es }))) (answered y) l
         go (answered es) h = (refl, h)
         go (refused n f z) h = absurd h
-
--- an answer is no refusal
-no-refusal : {A : Type 0} {a : A} {n : ℕ} {f : List Float} {z : List ℤ} → answered a ≡ refused n f z → ⊥
-no-refusal {A} e = subst (λ (p : Paper A). is-answer p) e tt
-  where
-    is-answer : Paper A → Type 0
-    is-answer (answered a) = Unit
-    is-answer (refused n f z) = ⊥
 
 -- ---- the file, with its entries checked
 module _ (text : List ℕ) (l : Lists) where
@@ -67,7 +60,7 @@ module _ (text : List ℕ) (l : Lists) where
   unfolding cofSays
   unread k f = go (fileSays (lines text)) f
     where
-      go : (q : Paper CofSet) → Filled q (paper k) l → Filled (after q (λ s. told (setVerdict (s .lists)) (answered s))) (paper k) l
+      go : (q : Paper ModelSet) → Filled q (paper k) l → Filled (after q (λ s. told (setVerdict (s .lists)) (answered s))) (paper k) l
       go (answered s) h = absurd (no-answer k (s .year) (h .0))
       go (refused m f z) h = h
 
@@ -76,7 +69,7 @@ module _ (text : List ℕ) (l : Lists) where
     unfolding cofSays
     over-cap k h = go (fileSays (lines text)) f
       where
-        go : (q : Paper CofSet) → Filled q (answered y) l → Filled (after q (λ s. told (setVerdict (s .lists)) (answered s))) (paper k) l
+        go : (q : Paper ModelSet) → Filled q (answered y) l → Filled (after q (λ s. told (setVerdict (s .lists)) (answered s))) (paper k) l
         go (answered s) g = subst (λ (u : Verdict). Filled (told u (answered s)) (paper k) l) (sym (ap setVerdict (sym (g .1)) ∙ sym w ∙ h)) refl
         go (refused m f z) g = absurd (no-refusal g)
 
@@ -84,7 +77,7 @@ module _ (text : List ℕ) (l : Lists) where
     unfolding cofSays
     within-caps h = go (fileSays (lines text)) f
       where
-        go : (q : Paper CofSet) → Filled q (answered y) l → Filled (after q (λ s. told (setVerdict (s .lists)) (answered s))) (answered y) l
+        go : (q : Paper ModelSet) → Filled q (answered y) l → Filled (after q (λ s. told (setVerdict (s .lists)) (answered s))) (answered y) l
         go (answered s) g = subst (λ (u : Verdict). Filled (told u (answered s)) (answered y) l) (sym (ap setVerdict (sym (g .1)) ∙ sym w ∙ h)) g
         go (refused m f z) g = absurd (no-refusal g)
 
@@ -119,14 +112,14 @@ module _ (text : List ℕ) (held : Lists) (b : Bool) (e : b ≡ long (held .g) (
     refused-file : (k : Refusal) → Filled (cofSays text) (paper k) l → left (paper k) held ≡ readOf text held
     refused-file k f = sym (decided ∙ go (cofSays text) f)
       where
-        go : (q : Paper CofSet) → Filled q (paper k) l → afterwards q held ≡ left (paper k) held
+        go : (q : Paper ModelSet) → Filled q (paper k) l → afterwards q held ≡ left (paper k) held
         go (answered s) h = absurd (no-answer k (s .year) (h .0))
         go (refused m f z) h = ap (λ (p : Paper ℤ). left p held) (sym h)
 
     taken-file : (y : ℤ) → Filled (cofSays text) (answered y) l → left (answered y) l ≡ readOf text held
     taken-file y f = sym (decided ∙ go (cofSays text) f)
       where
-        go : (q : Paper CofSet) → Filled q (answered y) l → afterwards q held ≡ left (answered y) l
+        go : (q : Paper ModelSet) → Filled q (answered y) l → afterwards q held ≡ left (answered y) l
         go (answered s) g = ap (λ (p : Paper ℤ). left p (s .lists)) (sym (g .0)) ∙ ap (left (answered y)) (sym (g .1))
         go (refused m f z) g = absurd (no-refusal g)
 

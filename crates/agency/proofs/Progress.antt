@@ -17,8 +17,9 @@ use Rattle.tables.specs.Degree.{N-COEFF}
 use Rattle.text.specs.Lines.{lines}
 use Rattle.agency.specs.declared.entries.Entry.{Entry}
 use Rattle.agency.specs.declared.file.Place.{Place}
-use Rattle.agency.specs.Cof.{Lists, columns, first, following, lists-of, ninesVerdict, rowSays, rowsSay}
-use Rattle.agency.specs.Code.{LineTaken, Ninety, RowsFilled}
+use Rattle.lists.specs.Sets.{Lists, Ninety, lists-of}
+use Rattle.agency.specs.Cof.{columns, first, following, ninesVerdict, rowSays, rowsSay}
+use Rattle.agency.specs.Code.{LineTaken, RowsFilled}
 
 -- ---- what is said of the lines that are left, behind those that are read
 abbrev Onto : List Entry → Paper (List Entry) → Paper (List Entry)

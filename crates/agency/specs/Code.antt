@@ -8,7 +8,6 @@ use lib.Ieee.{Float}
 use Rattle.refusals.specs.Paper.{Paper, answered, refused, paper}
 use Rattle.refusals.specs.declared.Verdict.{Verdict}
 use Rattle.refusals.specs.declared.Verdict.the-variants as Verdict
-use Rattle.tables.specs.Degree.{N-COEFF}
 use Rattle.text.specs.Decimals.{Read, read, malformed}
 use Rattle.text.specs.Lines.{lines}
 use Rattle.text.specs.Words.{firstWord, words}
@@ -30,7 +29,8 @@ use Rattle.agency.specs.declared.file.PlacedAnswer.{PlacedAnswer}
 use Rattle.agency.specs.declared.file.PlacedAnswer.the-variants as PlacedAnswer
 use Rattle.agency.specs.declared.file.RowAnswer.{RowAnswer}
 use Rattle.agency.specs.declared.file.RowAnswer.the-variants as RowAnswer
-use Rattle.agency.specs.Cof.{CofSet, Lists, columns}
+use Rattle.lists.specs.Sets.{Lists, ModelSet}
+use Rattle.agency.specs.Cof.{columns}
 
 -- ---- a line's words
 -- the first word from a place on, by its own places in the line
@@ -80,10 +80,6 @@ abbrev pub rowAt : RowAnswer → Paper (Entry × ℕ)
 rowAt (RowAnswer.Row r) = answered (r .entry, r .next)
 rowAt (RowAnswer.Refused k) = paper k
 
--- ---- each list is ninety long
-abbrev pub Ninety : Lists → Type 0
-Ninety l = (length (l .g) ≡ N-COEFF) × (length (l .h) ≡ N-COEFF) × (length (l .g-dot) ≡ N-COEFF) × (length (l .h-dot) ≡ N-COEFF)
-
 -- ---- the lists that are filled: what is said, and, behind an answer, what they hold
 abbrev pub RowsFilled : Paper (List Entry) → Verdict → Lists → Type 0
 RowsFilled (answered es) Verdict.Accepted l = l ≡ columns es
@@ -91,6 +87,6 @@ RowsFilled (answered es) (Verdict.Refused k) l = ⊥
 RowsFilled (refused n f z) Verdict.Accepted l = ⊥
 RowsFilled (refused n f z) (Verdict.Refused k) l = _≡_ {A = Paper ℤ} (paper k) (refused n f z)
 
-abbrev pub Filled : Paper CofSet → Paper ℤ → Lists → Type 0
+abbrev pub Filled : Paper ModelSet → Paper ℤ → Lists → Type 0
 Filled (answered s) q l = (q ≡ answered (s .year)) × (l ≡ s .lists)
 Filled (refused n f z) q l = q ≡ refused n f z

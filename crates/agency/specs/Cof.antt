@@ -4,21 +4,18 @@ use mathlib.Core.List.{List, [], _∷_, map}
 use Prim.Native.Nat.{ℕ, zero, suc, _+_}
 use lib.Dec.{eqb}
 use lib.IntN.{ℤ}
-use lib.Ieee.{Float}
-use Rattle.refusals.specs.Paper.{Paper, answered, refused, paper, unless, after, told, check}
-use Rattle.refusals.specs.declared.Refusal.the-variants.{Length, Malformed, OutOfOrder}
+use Rattle.refusals.specs.Paper.{Paper, answered, paper, unless, after, told, check}
+use Rattle.refusals.specs.declared.Refusal.the-variants.{Malformed, OutOfOrder}
 use Rattle.refusals.specs.declared.Verdict.{Verdict}
 use Rattle.refusals.specs.declared.Verdict.the-variants as Verdict
 use Rattle.tables.specs.Degree.{N-COEFF}
-use Rattle.lists.specs.Lists.{capsVerdict, long}
+use Rattle.lists.specs.Sets.{Left, Lists, ModelSet, lists-of, readInto, setVerdict}
 use Rattle.text.specs.Decimals.{Read, read, malformed, wholeOf}
 use Rattle.text.specs.Reading.{next-word}
 use Rattle.text.specs.Lines.{lines}
 use Rattle.text.specs.Words.{words}
 use Rattle.agency.specs.declared.entries.Entry.{Entry}
 use Rattle.agency.specs.declared.file.Place.{Place}
-use Rattle.agency.specs.declared.ReadAnswer.{ReadAnswer}
-use Rattle.agency.specs.declared.ReadAnswer.the-variants as ReadAnswer
 use Rattle.agency.specs.Entries.{entryOf, equals, nines}
 
 -- ---- the header
@@ -61,56 +58,19 @@ rowsSay zero i p ls = told (ninesVerdict i ls) (answered [])
 rowsSay (suc k) i p ls = after (rowSays i p ls) (λ e. after (rowsSay k (suc i) (following p) (e .1)) (λ es. answered (e .0 ∷ es)))
 
 -- ---- the file
--- the four lists
-pub record Lists : Type 0 where
-  pub g : List Float
-  pub h : List Float
-  pub g-dot : List Float
-  pub h-dot : List Float
-
-abbrev pub lists-of : List Float → List Float → List Float → List Float → Lists
-lists-of g h g-dot h-dot = record { g = g; h = h; g-dot = g-dot; h-dot = h-dot }
-
--- a set: its epoch year and its four lists
-pub record CofSet : Type 0 where
-  pub year : ℤ
-  pub lists : Lists
-
 -- the lists of the coefficient lines: each a column of theirs
 abbrev pub columns : List Entry → Lists
 columns es = lists-of (map (λ (e : Entry). e .g) es) (map (λ (e : Entry). e .h) es) (map (λ (e : Entry). e .«g_dot») es) (map (λ (e : Entry). e .«h_dot») es)
 
 -- header, ninety lines, then nines: 13 and 14, in file order
-unfoldable pub fileSays : List (List ℕ) → Paper CofSet
+unfoldable pub fileSays : List (List ℕ) → Paper ModelSet
 fileSays ls = after (headerSays ls) (λ y. after (rowsSay N-COEFF 2 first (y .1)) (λ es. answered (record { year = y .0; lists = columns es })))
 
--- 7, of the four lists
-abbrev pub setVerdict : Lists → Verdict
-setVerdict l = capsVerdict (l .g) (l .h) (l .g-dot) (l .h-dot)
-
 -- the file, then 7
-unfoldable pub cofSays : List ℕ → Paper CofSet
+unfoldable pub cofSays : List ℕ → Paper ModelSet
 cofSays text = after (fileSays (lines text)) (λ s. told (setVerdict (s .lists)) (answered s))
 
 -- ---- the call
--- what it leaves: what it says, and the four lists
-pub record Left : Type 0 where
-  pub says : Paper ℤ
-  pub lists : Lists
-
-abbrev pub left : Paper ℤ → Lists → Left
-left p l = record { says = p; lists = l }
-
--- a set that is read goes into the lists; a refusal leaves them as they were
-abbrev pub afterwards : Paper CofSet → Lists → Left
-afterwards (answered s) held = left (answered (s .year)) (s .lists)
-afterwards (refused n f z) held = left (refused n f z) held
-
 -- 6, then the file
 abbrev pub readOf : List ℕ → Lists → Left
-readOf text held = afterwards (unless (long (held .g) (held .h) (held .g-dot) (held .h-dot)) (paper Length) (cofSays text)) held
-
--- what an answer says, on paper
-abbrev pub said : ReadAnswer → Paper ℤ
-said (ReadAnswer.Epoch y) = answered y
-said (ReadAnswer.Refused k) = paper k
+readOf text held = readInto (cofSays text) held

@@ -1,9 +1,9 @@
 // The file's lines: header, ninety lines, then nines.
-use crate::ReadAnswer;
 use crate::entries;
 use crate::entries::Entry;
 use crate::entries::EntryAnswer;
 use crate::entries::WholeAt;
+use lists::ReadAnswer;
 use refusals::Refusal;
 use refusals::Verdict;
 use tables::N_COEFF;
@@ -17,8 +17,9 @@ ghost use Rattle.tables.specs.Degree.{N-COEFF};
 ghost use Rattle.text.specs.Lines.{lines};
 ghost use Rattle.text.specs.Words.{words};
 ghost use Rattle.agency.specs.Entries.{entryOf, equals, nines};
-ghost use Rattle.agency.specs.Cof.{fileSays, first, following, headerSays, lists-of, ninesVerdict, placed, rowSays, rowsSay, said};
-ghost use Rattle.agency.specs.Code.{Filled, LineTaken, Ninety, RowsFilled, headerAt, placedSaid, rowAt};
+ghost use Rattle.lists.specs.Sets.{Ninety, lists-of, said};
+ghost use Rattle.agency.specs.Cof.{fileSays, first, following, headerSays, ninesVerdict, placed, rowSays, rowsSay};
+ghost use Rattle.agency.specs.Code.{Filled, LineTaken, RowsFilled, headerAt, placedSaid, rowAt};
 
 // The degree and the order that are due.
 struct Place {

@@ -3,6 +3,7 @@
 mod entries;
 mod file;
 
+use lists::ReadAnswer;
 use refusals::Refusal;
 use refusals::Verdict;
 use tables::N_COEFF;
@@ -11,14 +12,9 @@ ghost use mathlib.Core.List.{_++_};
 ghost use Prim.Native.Nat.{_≤_};
 ghost use lib.ListN.{length, take, drop};
 ghost use Rattle.tables.specs.Degree.{N-COEFF};
-ghost use Rattle.agency.specs.Cof.{cofSays, left, lists-of, readOf, said};
-ghost use Rattle.agency.specs.Code.{Filled, Ninety};
-
-// What `read` answers.
-pub enum ReadAnswer {
-    Epoch(i32),
-    Refused(Refusal),
-}
+ghost use Rattle.lists.specs.Sets.{Ninety, left, lists-of, said};
+ghost use Rattle.agency.specs.Cof.{cofSays, readOf};
+ghost use Rattle.agency.specs.Code.{Filled};
 
 // The first `count` of what was found, in the place of the list's.
 fn put(list: &mut [f32], found: &[f32; N_COEFF], count: usize)

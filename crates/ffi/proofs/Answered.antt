@@ -4,7 +4,7 @@ use mathlib.Core.List.{List}
 use Prim.Native.Nat.{ℕ}
 use lib.IntN.{ℤ}
 use Rattle.refusals.specs.Paper.{Paper, answered}
-use Rattle.ffi.specs.Told.{numberOf, result, entryPlace, linePlace, yearsPlace}
+use Rattle.ffi.specs.Told.{numberOf, result, entryPlace, wherePlace, yearsPlace}
 
 -- where a call says p, and p is the answer a
 module _ {A : Type 0} (a : A) (p : Paper A) (e : answered a ≡ p) where
@@ -20,5 +20,5 @@ module _ {A : Type 0} (a : A) (p : Paper A) (e : answered a ≡ p) where
   pub years-answered : (held : List ℤ) → held ≡ yearsPlace held p
   years-answered held = ap (yearsPlace held) e
 
-  pub line-answered : (held : ℕ) → held ≡ linePlace held p
-  line-answered held = ap (linePlace held) e
+  pub where-answered : (held : ℕ) → held ≡ wherePlace held p
+  where-answered held = ap (wherePlace held) e

@@ -1,4 +1,4 @@
--- What a returned 0 means: there is an answer. So Field's promised distance holds of what `njerumoy_field`, `njerumoy_field_in_degrees` and `njerumoy_field_listed` have written. Assumes nothing.
+-- What a returned 0 means: there is an answer. So Field's promised distance holds of what `njerumoy_field`, `njerumoy_field_in_degrees`, `njerumoy_field_stored` and `njerumoy_field_listed` have written. Assumes nothing.
 use mathlib.Core.Path.{_≡_, refl, sym, ap, _∙_}
 use mathlib.Core.Bool.{Bool, true, false, cond}
 use mathlib.Core.List.{List, [], _∷_}
@@ -31,6 +31,8 @@ use Rattle.models.specs.Epochs.{unknownEpoch, dayExists, epochYear, sameYear, k
 use Rattle.models.specs.Records.{figuresOk, figuresSays, listedErrors}
 use Rattle.models.specs.Errors.{builtIn, errorSays}
 use Rattle.lists.specs.Lists.{listsVerdict}
+use Rattle.lists.specs.Sets.{ModelSet}
+use Rattle.stored.specs.Stored.{storedSays, storedVerdict}
 use Rattle.trig.specs.declared.Pair.{Pair}
 use Rattle.trig.specs.Fixed.{accepted, sineSays}
 use Rattle.field.specs.declared.FieldAnswer.the-variants as Answer
@@ -38,11 +40,13 @@ use Rattle.strengths.specs.declared.GeomagneticField.{GeomagneticField}
 use Rattle.field.specs.Field.{Asked, asked, shownSays, datedSays, componentsSays, fieldWith, fieldSays, listedField, FieldClose}
 use Rattle.field.proofs.Answers.{field-close, answer-close, of-place}
 use Rattle.degrees.specs.Degrees.{Place, place, paired, degreesSays}
-use Rattle.ffi.specs.Told.{numberOf, result, fieldFloats, errorFloats}
+use Rattle.ffi.specs.Told.{numberOf, result, fieldFloats, errorFloats, storedField}
 use Rattle.ffi.proofs.fields.njerumoy_field.Kinds as kinds
 use Rattle.ffi.proofs.fields.njerumoy_field.Reads as reads
 use Rattle.ffi.proofs.fields.njerumoy_field_in_degrees.Kinds as degrees-kinds
 use Rattle.ffi.proofs.fields.njerumoy_field_in_degrees.Reads as degrees-reads
+use Rattle.ffi.proofs.sets.njerumoy_field_stored.Kinds as stored-kinds
+use Rattle.ffi.proofs.sets.njerumoy_field_stored.Reads as stored-reads
 use Rattle.ffi.proofs.listed.njerumoy_field_listed as listed
 
 -- ---- no refusal has the number 0
@@ -122,6 +126,25 @@ degrees-answers : (a : Place) (year day : ℤ) → 0 ≡ numberOf (degreesSays a
 unfolding degreesSays
 degrees-answers a year day = behind-two (sineSays (a .latitude)) (sineSays (a .longitude)) (λ p q. fieldSays (paired a p q) year day) (pair-answers (a .latitude)) (pair-answers (a .longitude)) (λ p q. field-answers (paired a p q) year day)
 
+-- what is said behind an answer, and that answer
+behind-one : {A C : Type 0} (p : Paper A) (f : A → Paper C) → Answers p → ((a : A) → Answers (f a)) → 0 ≡ numberOf (after p f) → (a : A) × (c : C) × (p ≡ answered a) × (after p f ≡ answered c) × (f a ≡ answered c)
+behind-one (answered a) f h t e = let r = t a e in (a, r .0, refl, r .1, r .1)
+behind-one (refused n x z) f h t e = absurd (not-refused n x z h e)
+
+stored-answers : (s : List ℕ) → Answers (storedSays s)
+unfolding storedSays
+stored-answers s = behind-verdict (storedVerdict s) _ (answers _)
+
+-- what Field is asked, with the set that is read
+abbrev pub with-set : (height sin-phi cos-phi sin-lambda cos-lambda : Float) → ModelSet → Asked
+with-set height sp cp sl cl m = asked height sp cp sl cl (m .year) (m .lists .g) (m .lists .h) (m .lists .g-dot) (m .lists .h-dot)
+
+-- Field of a stored set: where its number is 0, there is the set that was read and what Field says of it
+stored-field-answers : (s : List ℕ) (height sp cp sl cl : Float) (year day : ℤ) → 0 ≡ numberOf (storedField s height sp cp sl cl year day)
+    → (m : ModelSet) × (v : GeomagneticField) × (storedSays s ≡ answered m) × (storedField s height sp cp sl cl year day ≡ answered v) × (fieldSays (with-set height sp cp sl cl m) year day ≡ answered v)
+unfolding storedField
+stored-field-answers s height sp cp sl cl year day = behind-one (storedSays s) (λ m. fieldSays (with-set height sp cp sl cl m) year day) (stored-answers s) (λ m. field-answers (with-set height sp cp sl cl m) year day)
+
 -- ---- the entries
 -- whatever is passed: if it returns 0, what it has written are the floats of one record, whose X, Y and Z lie within the promised distance
 pub njerumoy-field-distance : (κs : Lfts 8) (height sin-phi cos-phi sin-lambda cos-lambda : Float) (year day epoch-year : ℤ) (g h g-dot h-dot xyz errors : RefT (List Float)) (entry : RefT (List ℕ)) (years : RefT (List ℤ))
@@ -147,6 +170,17 @@ njerumoy-field-in-degrees-distance κs height latitude longitude year day epoch-
     let r = degrees-answers a year day (c .0 .0) in
     let v = r .2 in
     (r .0, r .1, v, r .3, r .4, c .0 .1 ∙ ap (result fieldFloats _) (r .5), c .0 .2 ∙ ap (result errorFloats _) (r .5), field-close (paired a (r .0) (r .1)) year day (Answer.Field v) (sym (r .6)) v refl)
+
+-- the same of the entry with a stored set, of the set that is read
+pub njerumoy-field-stored-distance : (κs : Lfts 6) (stored : RefT (List ℕ)) (height sin-phi cos-phi sin-lambda cos-lambda : Float) (year day : ℤ) (xyz errors : RefT (List Float)) (entry : RefT (List ℕ)) (years : RefT (List ℤ)) (place : RefT ℕ)
+    (xyz′ errors′ : List Float) (entry′ : List ℕ) (years′ : List ℤ) (place′ : ℕ)
+    → (let a : Dens κs stored-kinds.ps = (stored, (height, (sin-phi, (cos-phi, (sin-lambda, (cos-lambda, (year, (day, (xyz, (errors, (entry, (years, (place, tt))))))))))))) in
+    stored-reads.Post κs a 0 (atExit (endedOf 6 stored-kinds.ps stored-kinds.r) κs a (tt, (tt, (tt, (tt, (tt, (tt, (tt, (tt, (xyz′, (errors′, (entry′, (years′, (place′, tt)))))))))))))))
+    → (m : ModelSet) × (v : GeomagneticField) × (storedSays (now stored) ≡ answered m) × (xyz′ ≡ fieldFloats v) × (errors′ ≡ errorFloats v) × FieldClose (with-set height sin-phi cos-phi sin-lambda cos-lambda m) (epochOffset year day) v
+njerumoy-field-stored-distance κs stored height sin-phi cos-phi sin-lambda cos-lambda year day xyz errors entry years place xyz′ errors′ entry′ years′ place′ c =
+    let r = stored-field-answers (now stored) height sin-phi cos-phi sin-lambda cos-lambda year day (c .0 .0) in
+    let v = r .1 in
+    (r .0, v, r .2, c .0 .1 ∙ ap (result fieldFloats _) (r .3), c .0 .2 ∙ ap (result errorFloats _) (r .3), field-close (with-set height sin-phi cos-phi sin-lambda cos-lambda (r .0)) year day (Answer.Field v) (sym (r .4)) v refl)
 
 -- the same of the entry with a lent list, over its clauses, since its proof is by hand
 pub njerumoy-field-listed-distance : {M : Type 1} (𝓤 : URA M) (H : Heap 𝓤) (A : Atoms 𝓤) (mem : Memory → SProp 𝓤) (run : Routine → Fun 𝓤) (κs : Lfts 9) (height sin-phi cos-phi sin-lambda cos-lambda : Float) (year day epoch-year : ℤ)

@@ -1,5 +1,6 @@
 -- What the proofs of the entries share; then that each contract leaves one result, and what a returned 0 means.
 mod Refused
 mod Answered
+mod Stored
 pub mod Unique
 pub mod Distance

@@ -6,13 +6,16 @@ use lib.Dec.{eqb}
 use lib.IntN.{ℤ, pos, natAbs}
 use lib.ListN.{getD}
 use lib.Ieee.{Float, binary32, ofBits}
-use Rattle.refusals.specs.Paper.{Paper, answered, refused}
+use Rattle.refusals.specs.Paper.{Paper, answered, refused, after, told}
+use Rattle.refusals.specs.declared.Verdict.{Verdict}
 use Rattle.trig.specs.declared.Pair.{Pair}
 use Rattle.models.specs.declared.epochs.EpochOffset.{EpochOffset}
 use Rattle.synthesis.specs.declared.Xyz.{Xyz}
 use Rattle.strengths.specs.declared.GeomagneticField.{GeomagneticField}
 use Rattle.strengths.specs.Strengths.{Warning, blackout, caution, no-zone}
 use Rattle.strengths.specs.Grid.{Variation, degrees, absent}
+use Rattle.stored.specs.Stored.{storedSays}
+use Rattle.field.specs.Field.{asked, fieldSays}
 use Rattle.allowance.specs.declared.Allowances.{Allowances}
 
 -- ---- of any answer
@@ -36,10 +39,23 @@ abbrev pub yearsPlace : {A : Type 0} → List ℤ → Paper A → List ℤ
 yearsPlace held (answered a) = held
 yearsPlace held (refused n f z) = cond (eqb n 8) z held
 
--- the place for the line of refusals 13 and 14
-abbrev pub linePlace : {A : Type 0} → ℕ → Paper A → ℕ
-linePlace held (answered a) = held
-linePlace held (refused n f z) = cond (eqb n 13 || eqb n 14) (natAbs (getD z 0 (pos 0))) held
+-- the place for where a reader stopped: the line of refusals 13 and 14, the place in the bytes of 17, 18 and 19
+abbrev pub wherePlace : {A : Type 0} → ℕ → Paper A → ℕ
+wherePlace held (answered a) = held
+wherePlace held (refused n f z) = cond (eqb n 13 || eqb n 14 || eqb n 17 || eqb n 18 || eqb n 19) (natAbs (getD z 0 (pos 0))) held
+
+-- ---- of a call without an answer but that nothing was refused
+abbrev pub verdictNumber : Verdict → ℕ
+verdictNumber v = numberOf {A = ℕ} (told v (answered 0))
+
+abbrev pub verdictEntry : List ℕ → Verdict → List ℕ
+verdictEntry held v = entryPlace {A = ℕ} held (told v (answered 0))
+
+-- ---- Field of a stored set
+-- what the reader refuses, then what Field says of the set that is read
+unfoldable pub storedField : List ℕ → (height sin-phi cos-phi sin-lambda cos-lambda : Float) → (year day : ℤ) → Paper GeomagneticField
+storedField s height sp cp sl cl year day =
+    after (storedSays s) (λ m. fieldSays (asked height sp cp sl cl (m .year) (m .lists .g) (m .lists .h) (m .lists .g-dot) (m .lists .h-dot)) year day)
 
 -- ---- how each answer is written
 -- X', Y and Z', in this order

@@ -1,11 +1,9 @@
 // Reading a coefficient file.
-use crate::refuse::note_entry;
-use crate::refuse::note_line;
-use agency::ReadAnswer;
-use refusals::number;
+use crate::tell::tell_read;
 ghost use mathlib.Core.Path.{_≡_};
-ghost use Rattle.agency.specs.Cof.{lists-of, readOf, said};
-ghost use Rattle.ffi.specs.Told.{numberOf, result, entryPlace, linePlace, whole};
+ghost use Rattle.lists.specs.Sets.{lists-of};
+ghost use Rattle.agency.specs.Cof.{readOf};
+ghost use Rattle.ffi.specs.Told.{numberOf, result, entryPlace, wherePlace, whole};
 
 #[no_mangle]
 pub extern "C" fn njerumoy_read_cof(
@@ -21,32 +19,9 @@ pub extern "C" fn njerumoy_read_cof(
     ensures { λ r. ⌜ (let s = readOf (now (text .entry)) (lists-of (now (g .entry)) (now (h .entry)) (now («g_dot» .entry)) (now («h_dot» .entry))) in
         (r ≡ numberOf (s .says)) × (lists-of (now (g .exit)) (now (h .exit)) (now («g_dot» .exit)) (now («h_dot» .exit)) ≡ s .lists)
         × (now («epoch_year» .exit) ≡ result whole (now («epoch_year» .entry)) (s .says))
-        × (now (entry .exit) ≡ entryPlace (now (entry .entry)) (s .says)) × (now (line .exit) ≡ linePlace (now (line .entry)) (s .says))) ⌝ }
+        × (now (entry .exit) ≡ entryPlace (now (entry .entry)) (s .says)) × (now (line .exit) ≡ wherePlace (now (line .entry)) (s .says))) ⌝ }
     ensures kept { λ _. ⌜ now (text .exit) ≡ now (text .entry) ⌝ }
 {
     let answer = agency::read(text, g, h, g_dot, h_dot);
     tell_read(answer, epoch_year, entry, line)
-}
-
-// The file's epoch year, and what a refusal of the reader carries.
-fn tell_read(
-    answer: ReadAnswer,
-    epoch_year: &mut i32,
-    entry: &mut [usize; 2],
-    line: &mut usize,
-) -> u32
-    ensures { λ r. ⌜ (r ≡ numberOf (said answer)) × (now («epoch_year» .exit) ≡ result whole (now («epoch_year» .entry)) (said answer))
-        × (now (entry .exit) ≡ entryPlace (now (entry .entry)) (said answer)) × (now (line .exit) ≡ linePlace (now (line .entry)) (said answer)) ⌝ }
-{
-    match answer {
-        ReadAnswer::Epoch(year) => {
-            *epoch_year = year;
-            0
-        }
-        ReadAnswer::Refused(k) => {
-            note_entry(k, entry);
-            note_line(k, line);
-            number(k)
-        }
-    }
 }

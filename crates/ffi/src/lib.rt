@@ -8,5 +8,6 @@ mod files;
 mod listed;
 mod records;
 mod refuse;
+mod sets;
 mod sums;
 mod tell;

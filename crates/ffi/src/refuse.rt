@@ -4,7 +4,7 @@ use refusals::Refusal;
 ghost use mathlib.Core.Path.{_≡_};
 ghost use Prim.Native.Nat.{ℕ};
 ghost use Rattle.refusals.specs.Paper.{paper};
-ghost use Rattle.ffi.specs.Told.{entryPlace, linePlace, yearsPlace};
+ghost use Rattle.ffi.specs.Told.{entryPlace, wherePlace, yearsPlace};
 
 // The list and the index of refusal 7.
 pub fn note_entry(k: Refusal, entry: &mut [usize; 2])
@@ -24,15 +24,17 @@ pub fn note_years(k: Refusal, years: &mut [i32; 2])
     }
 }
 
-// The line's number, of refusals 13 and 14.
-pub fn note_line(k: Refusal, line: &mut usize)
-    ensures { λ _. ⌜ now (line .exit) ≡ linePlace (now (line .entry)) (paper {A = ℕ} k) ⌝ }
+// Where a reader stopped: the line's number of refusals 13 and 14, the place in the bytes of 17, 18 and
+// 19.
+pub fn note_where(k: Refusal, place: &mut usize)
+    ensures { λ _. ⌜ now (place .exit) ≡ wherePlace (now (place .entry)) (paper {A = ℕ} k) ⌝ }
 {
-    if let Refusal::Malformed { line: n } = k {
-        *line = n;
-        return;
-    }
-    if let Refusal::OutOfOrder { line: n } = k {
-        *line = n;
+    match k {
+        Refusal::Malformed { line } => *place = line,
+        Refusal::OutOfOrder { line } => *place = line,
+        Refusal::WrongTag { place: n } => *place = n,
+        Refusal::WrongLength { place: n } => *place = n,
+        Refusal::WrongEnd { place: n } => *place = n,
+        _ => {}
     }
 }

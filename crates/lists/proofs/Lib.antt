@@ -1,3 +1,4 @@
--- The laws of the lists' checks.
+-- The laws of the lists' checks, and of a reader's answer.
 pub mod Checked
+pub mod Sets
 pub mod Unique

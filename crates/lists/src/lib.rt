@@ -1,4 +1,4 @@
-// The checks of the four lent lists: refusals 6 and 7.
+// The checks of the four lent lists: refusals 6 and 7. And what a reader of a set answers.
 use refusals::Refusal;
 use refusals::Verdict;
 use tables::N_COEFF;
@@ -8,6 +8,12 @@ ghost use Prim.Native.Nat.{_≤_};
 ghost use lib.Ieee.{neg};
 ghost use Rattle.exact.specs.Tests.{all-between};
 ghost use Rattle.lists.specs.Lists.{capsVerdict, entriesVerdict, listsVerdict, long, withinOf};
+
+// What a reader of a set answers: the set's epoch year, with its lists in the lent ones.
+pub enum ReadAnswer {
+    Epoch(i32),
+    Refused(Refusal),
+}
 
 // Caps on an entry's size: nT for the coefficients, nT a year for the rates.
 const MAIN_CAP: f32 = 65536.0;

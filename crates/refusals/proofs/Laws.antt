@@ -1,5 +1,5 @@
 -- Laws of the paper's numbers: a number with its values leaves one refusal, a number alone one case, and none is 0. Assumes nothing.
-use mathlib.Core.Path.{_≡_, refl, sym, ap, _∙_}
+use mathlib.Core.Path.{_≡_, refl, sym, ap, subst, _∙_}
 use mathlib.Core.Bool.{Bool, true, false, cond}
 use mathlib.Core.List.{List, [], _∷_, map}
 use Prim.Native.Nat.{ℕ}
@@ -48,6 +48,10 @@ cases v =
     Refusal.OutOfOrder (natAbs (whole v 0)) ∷
     Refusal.NoErrorRecord ∷
     Refusal.Angle ∷
+    Refusal.WrongTag (natAbs (whole v 0)) ∷
+    Refusal.WrongLength (natAbs (whole v 0)) ∷
+    Refusal.WrongEnd (natAbs (whole v 0)) ∷
+    Refusal.NoRoom ∷
     []
 
 -- the first refusal of the list that has the number n
@@ -73,6 +77,10 @@ read-back (Refusal.Malformed i) = refl
 read-back (Refusal.OutOfOrder i) = refl
 read-back Refusal.NoErrorRecord = refl
 read-back Refusal.Angle = refl
+read-back (Refusal.WrongTag i) = refl
+read-back (Refusal.WrongLength i) = refl
+read-back (Refusal.WrongEnd i) = refl
+read-back Refusal.NoRoom = refl
 
 line-of : {A : Type 0} → Paper A → Line
 line-of (answered a) = carries 0 [] []
@@ -125,6 +133,13 @@ not-zero k e =
 -- ---- an answer is no refusal
 pub no-answer : {A : Type 0} (k : Refusal) (a : A) → paper k ≡ answered a → ⊥
 no-answer k a e = let z : _≡_ {A = ℕ} 0 1 = cc in omega arith
+
+pub no-refusal : {A : Type 0} {a : A} {n : ℕ} {f : List Float} {z : List ℤ} → answered a ≡ refused n f z → ⊥
+no-refusal {A} e = subst (λ (p : Paper A). is-answer p) e tt
+  where
+    is-answer : Paper A → Type 0
+    is-answer (answered a) = Prim.Unit
+    is-answer (refused n f z) = ⊥
 
 pub answered-one : {A : Type 0} (a b : A) → answered a ≡ answered b → a ≡ b
 answered-one a b e = cc

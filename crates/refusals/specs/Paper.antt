@@ -36,6 +36,10 @@ line (Refusal.Malformed i) = carries 13 [] (pos i ∷ [])
 line (Refusal.OutOfOrder i) = carries 14 [] (pos i ∷ [])
 line Refusal.NoErrorRecord = carries 15 [] []
 line Refusal.Angle = carries 16 [] []
+line (Refusal.WrongTag i) = carries 17 [] (pos i ∷ [])
+line (Refusal.WrongLength i) = carries 18 [] (pos i ∷ [])
+line (Refusal.WrongEnd i) = carries 19 [] (pos i ∷ [])
+line Refusal.NoRoom = carries 20 [] []
 
 -- what a call says: its answer, or a refusal's number with the floats and the whole numbers that it carries
 pub data Paper (A : Type 0) : Type 0 where

@@ -42,6 +42,14 @@ pub enum Refusal {
     NoErrorRecord,
     // 16: of a latitude or a longitude in degrees, or of any other angle.
     Angle,
+    // 17: the place of the tag in the bytes, from 0 on.
+    WrongTag { place: usize },
+    // 18: the place of the length.
+    WrongLength { place: usize },
+    // 19: where the bytes end too soon, or the first byte that is left over.
+    WrongEnd { place: usize },
+    // 20: for the bytes of a set, or for its epoch year in two of them.
+    NoRoom,
 }
 
 // A refusal's number.
@@ -65,6 +73,10 @@ pub fn number(k: Refusal) -> u32
         Refusal::OutOfOrder { .. } => 14,
         Refusal::NoErrorRecord => 15,
         Refusal::Angle => 16,
+        Refusal::WrongTag { .. } => 17,
+        Refusal::WrongLength { .. } => 18,
+        Refusal::WrongEnd { .. } => 19,
+        Refusal::NoRoom => 20,
     }
 }
 

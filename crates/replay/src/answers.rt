@@ -1,6 +1,7 @@
 // The answer to a question: its form is tested whole, then one function for each kind of line reads
 // its numbers and asks the library. Every float takes nine bytes, so each stands at a known place.
 use crate::angles;
+use crate::bytes;
 use crate::fields;
 use crate::forms;
 use crate::listed;
@@ -97,6 +98,7 @@ fn reply(word: u64, line: &[u8], set: &[f32]) -> Reply {
         forms::DECL => angles::declination(line),
         forms::DIR => angles::directions(line),
         forms::FDEG => angles::place(line, set),
+        forms::SWRITE => bytes::written(line, set),
         forms::ROW => published::on_day(line, set),
         forms::MID => published::at_offset(line, set),
         _ => replies::MALFORMED,

@@ -37,6 +37,10 @@ pub const DIR: u64 = 0x44_49_52;
 
 pub const FDEG: u64 = 0x46_44_45_47;
 
+pub const SREAD: u64 = 0x53_52_45_41_44;
+
+pub const SWRITE: u64 = 0x53_57_52_49_54_45;
+
 // What follows the first word, which ends at `at`: floats, then years and days, then the floats of a
 // published row or a list of error records.
 pub struct Form {
@@ -58,7 +62,7 @@ fn made(at: usize, floats: u64, ints: u64, last: u64) -> Form {
     }
 }
 
-// Of DEC, WHOLE and COF only the place is asked: what follows them is a text, and with no text they
+// Of DEC, WHOLE, COF and SREAD only the place is asked: what follows them is a text, and with no text they
 // are no question.
 pub fn form_of(word: u64) -> Form {
     match word {
@@ -79,6 +83,8 @@ pub fn form_of(word: u64) -> Form {
         DECL => made(4, 2, 0, 0),
         DIR => made(3, 3, 0, 0),
         FDEG => made(4, 3, 2, 0),
+        SREAD => made(5, 0, 0, 0),
+        SWRITE => made(6, 0, 1, 0),
         _ => made(NOWHERE, 0, 0, 0),
     }
 }

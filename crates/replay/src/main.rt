@@ -2,6 +2,7 @@
 mod angles;
 mod answers;
 mod blocks;
+mod bytes;
 mod fields;
 mod forms;
 mod lines;

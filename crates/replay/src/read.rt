@@ -20,7 +20,7 @@ const NO_NUMBER: NumberAt = NumberAt {
     next: NOWHERE,
 };
 
-fn wide(b: u8) -> u64 {
+pub fn wide(b: u8) -> u64 {
     b as u64
 }
 
@@ -110,6 +110,15 @@ fn float_bits(line: &[u8], at: usize) -> NumberAt {
         return NO_NUMBER;
     }
     d
+}
+
+// A byte of two hex digits; 256 where there are none.
+pub fn byte(line: &[u8], at: usize) -> u64 {
+    let d = digits(line, at, 2, 16);
+    if d.left > 0 {
+        return 256;
+    }
+    d.value
 }
 
 // The float of 32 bits.
@@ -205,6 +214,15 @@ pub fn ints_end(line: &[u8], at: usize, n: u64) -> usize {
 // How many entries a list has: at most `most`.
 pub fn count(line: &[u8], at: usize, most: u64) -> NumberAt {
     decimal(line, after(line, at, b' '), 3, most)
+}
+
+// A count of bytes, with nothing after it. Where there is none it is NOWHERE.
+pub fn room(line: &[u8], at: usize) -> usize {
+    let d = decimal(line, after(line, at, b' '), 4, 4000);
+    if d.next != line.len() {
+        return NOWHERE;
+    }
+    d.value as usize
 }
 
 // The most floats of a list, and the most error records.

@@ -106,7 +106,7 @@ fn days(n: u64, first: Day, last: Day) -> Reply {
     )
 }
 
-// A refusal: its number, what it carries, then two words more. A file is never refused for its day.
+// A refusal: its number, what it carries, then two words more. No reader refuses a day.
 pub fn refusal_and(why: Refusal, a: u64, b: u64) -> Reply {
     let n = count(refusals::number(why) as usize);
     match why {
@@ -118,6 +118,9 @@ pub fn refusal_and(why: Refusal, a: u64, b: u64) -> Reply {
         Refusal::OtherEpoch { of_day, of_set } => few(n, int(of_day), int(of_set), a, b, END),
         Refusal::Malformed { line } => few(n, count(line), a, b, END, END),
         Refusal::OutOfOrder { line } => few(n, count(line), a, b, END, END),
+        Refusal::WrongTag { place } => few(n, count(place), a, b, END, END),
+        Refusal::WrongLength { place } => few(n, count(place), a, b, END, END),
+        Refusal::WrongEnd { place } => few(n, count(place), a, b, END, END),
         _ => few(n, a, b, END, END, END),
     }
 }

@@ -1,12 +1,13 @@
-// The lines whose first word is followed by a text as it stands: a number as the agency writes it, or
-// a whole file, in which `;` stands for a newline.
+// The lines whose first word is followed by a text as it stands: a number as the agency writes it, a
+// whole file, in which `;` stands for a newline, or the bytes of a stored set.
+use crate::bytes;
 use crate::forms;
 use crate::read;
 use crate::replies;
 use crate::replies::END;
 use crate::replies::OK;
 use crate::replies::Reply;
-use agency::ReadAnswer;
+use lists::ReadAnswer;
 use tables::N_COEFF;
 use text::NumberAnswer;
 use text::WholeAnswer;
@@ -40,11 +41,11 @@ fn whole(word: &[u8]) -> Reply {
     }
 }
 
-// Where the sum of four lists starts, of which a file's answer tells.
-const START: u64 = 0xcbf2_9ce4_8422_2325;
+// Where the sum of four lists starts, of which a reader's answer tells.
+pub const START: u64 = 0xcbf2_9ce4_8422_2325;
 
 // Times 0x100_0000_01b3, modulo 2^64. There is no product that wraps, so it is made of halves.
-fn times_prime(x: u64) -> u64 {
+pub fn times_prime(x: u64) -> u64 {
     let low = x % 0x1_0000_0000;
     let high = x / 0x1_0000_0000 * 0x1b3 + low * 0x100;
     std::num::wrapping_add_u64(low * 0x1b3, high % 0x1_0000_0000 * 0x1_0000_0000)
@@ -61,7 +62,7 @@ fn summed(start: u64, list: &[f32; N_COEFF]) -> u64 {
     sum
 }
 
-fn told(answer: ReadAnswer, sum: u64) -> Reply {
+pub fn told(answer: ReadAnswer, sum: u64) -> Reply {
     let high = replies::hex(sum / 0x1_0000_0000);
     let low = replies::hex(sum);
     match answer {
@@ -70,15 +71,26 @@ fn told(answer: ReadAnswer, sum: u64) -> Reply {
     }
 }
 
-// The lists hold the largest finite f32 before, so that a refused file which wrote them shows.
+// What a list holds before a set is read: the largest finite f32, so that a refusal which wrote it shows.
+pub const UNREAD: [f32; N_COEFF] = [3.402_823_5e38f32; N_COEFF];
+
+pub fn sum_of(
+    g: &[f32; N_COEFF],
+    h: &[f32; N_COEFF],
+    g_dot: &[f32; N_COEFF],
+    h_dot: &[f32; N_COEFF],
+) -> u64 {
+    let main = summed(summed(START, g), h);
+    summed(summed(main, g_dot), h_dot)
+}
+
 fn read_file(text: &[u8]) -> Reply {
-    let mut g = [3.402_823_5e38f32; N_COEFF];
+    let mut g = UNREAD;
     let mut h = g;
     let mut g_dot = g;
     let mut h_dot = g;
     let answer = agency::read(text, &mut g, &mut h, &mut g_dot, &mut h_dot);
-    let main = summed(summed(START, &g), &h);
-    told(answer, summed(summed(main, &g_dot), &h_dot))
+    told(answer, sum_of(&g, &h, &g_dot, &h_dot))
 }
 
 fn newline_for(b: u8) -> u8 {
@@ -110,6 +122,7 @@ pub fn answer(line: &[u8], word: u64, at: usize) -> Reply {
         forms::DEC => number(rest),
         forms::WHOLE => whole(rest),
         forms::COF => file(rest),
+        forms::SREAD => bytes::taken(rest),
         _ => replies::MALFORMED,
     }
 }

@@ -156,8 +156,7 @@ impl Generator {
             Kind::Dir => &mut walks.dir,
             _ => &mut walks.fdeg,
         };
-        let planned = self.rng.once_in(if walk.is_through() { 8 } else { 2 });
-        let place = if planned { Some(walk.next()) } else { None };
+        let place = walk.turn(&mut self.rng);
         match kind {
             Kind::Trig => self.trig(place),
             Kind::Decl => self.decl(place),

@@ -91,8 +91,7 @@ impl Generator {
             Kind::Flist => &mut self.listed_walks.field,
             _ => &mut self.listed_walks.uncertainty,
         };
-        let planned = self.rng.once_in(if walk.is_through() { 8 } else { 2 });
-        let place = if planned { Some(walk.next()) } else { None };
+        let place = walk.turn(&mut self.rng);
         match kind {
             Kind::Flist => self.listed_field(place, out),
             _ => self.listed_uncertainty(place),

@@ -6,7 +6,7 @@ use crate::sets::WMM_MODELS;
 use crate::synthesis::N_COEFF;
 
 /// Four lists of 90, each entry made by `entry(list, index)`.
-fn made(mut entry: impl FnMut(usize, usize) -> f32) -> [Vec<f32>; 4] {
+pub fn made(mut entry: impl FnMut(usize, usize) -> f32) -> [Vec<f32>; 4] {
     [0, 1, 2, 3].map(|list| (0..N_COEFF).map(|index| entry(list, index)).collect())
 }
 
@@ -66,9 +66,11 @@ fn good_lists(rng: &mut Rng, way: usize) -> [Vec<f32>; 4] {
 /// Lengths that are refused.
 const LENGTHS: [usize; 5] = [0, 1, 89, 91, 128];
 /// Ways to spoil one entry of one list, or to bring it to an end of its range.
-const ENTRIES: usize = 12;
+pub const ENTRIES: usize = 12;
+/// Those of them that spoil it, the first ones.
+pub const SPOILT: usize = 8;
 
-fn entry(rng: &mut Rng, list: usize, way: usize) -> f32 {
+pub fn entry(rng: &mut Rng, list: usize, way: usize) -> f32 {
     let cap = CAPS[list];
     match way {
         0 => f32::from_bits(rng.pick(&NOT_FINITE)),
@@ -130,13 +132,13 @@ pub fn lists(rng: &mut Rng, way: usize) -> [Vec<f32>; 4] {
     let way = way - 4 * ENTRIES;
     if way < 16 {
         for list in [way / 4, way % 4] {
-            let spoil = rng.below(8);
+            let spoil = rng.below(SPOILT);
             lists[list][place(rng)] = entry(rng, list, spoil);
         }
         return lists;
     }
     let other = rng.below(4);
-    let spoil = rng.below(8);
+    let spoil = rng.below(SPOILT);
     lists[way - 16][place(rng)] = entry(rng, way - 16, spoil);
     resize(&mut lists[other], LENGTHS[rng.below(LENGTHS.len())]);
     lists

@@ -88,6 +88,12 @@ impl Walk {
         self.at = (self.at + self.step) % self.total;
         self.at
     }
+
+    /// The next place, half of the times until every place has been met, then once in eight times.
+    pub fn turn(&mut self, rng: &mut Rng) -> Option<usize> {
+        let planned = rng.once_in(if self.is_through() { 8 } else { 2 });
+        planned.then(|| self.next())
+    }
 }
 
 fn gcd(a: usize, b: usize) -> usize {

@@ -5,8 +5,9 @@ use Prim.Native.Nat.{ℕ}
 use mir.Syntax.{w32}
 use mir.ValLaws.{toZ-ofZ}
 use Rattle.text.specs.Lines.{lines}
-use Rattle.agency.specs.declared.ReadAnswer.{ReadAnswer}
-use Rattle.agency.specs.Cof.{Lists, cofSays, fileSays, lists-of, said}
+use Rattle.lists.specs.declared.ReadAnswer.{ReadAnswer}
+use Rattle.lists.specs.Sets.{Lists, lists-of, said}
+use Rattle.agency.specs.Cof.{cofSays, fileSays}
 use Rattle.agency.specs.Code.{Filled}
 use Rattle.agency.proofs.Answers.{unread, over-cap, within-caps}
 use borrow.Author.Needs.{needs}

@@ -6,8 +6,7 @@ use native.Mathlib.Omega.{arith}
 use borrow.Author.Tests.{not-false}
 use Rattle.tables.specs.Degree.{N-COEFF}
 use Rattle.lists.proofs.Checked.{each-long}
-use Rattle.agency.specs.Cof.{lists-of, said}
-use Rattle.agency.specs.Code.{Ninety}
+use Rattle.lists.specs.Sets.{Ninety, lists-of, said}
 use Rattle.agency.proofs.Answers.{not-ninety, nothing-put, all-put, copied}
 use borrow.Author.Needs.{needs}
 use Rattle.agency.proofs.read.Statement.{statement}

@@ -9,7 +9,8 @@ use Rattle.refusals.specs.declared.Verdict.{Verdict}
 use Rattle.tables.specs.Degree.{N-COEFF}
 use Rattle.text.specs.Lines.{lines}
 use Rattle.agency.specs.declared.file.HeaderAnswer.{HeaderAnswer}
-use Rattle.agency.specs.Cof.{Lists, first, headerSays, lists-of, rowsSay}
+use Rattle.lists.specs.Sets.{Lists, lists-of}
+use Rattle.agency.specs.Cof.{first, headerSays, rowsSay}
 use Rattle.agency.specs.Code.{LineTaken, headerAt, RowsFilled}
 use Rattle.agency.proofs.Answers.{no-file, bad-lines, good-lines}
 use borrow.Author.Needs.{needs}

@@ -1,6 +1,6 @@
 -- `ffi::files::njerumoy_read_cof` meets its contract. Assumes nothing.
 use mathlib.Core.Path.{refl, ap}
-use Rattle.agency.specs.Cof.{Left}
+use Rattle.lists.specs.Sets.{Left}
 use borrow.Author.Needs.{needs}
 use Rattle.ffi.proofs.files.njerumoy_read_cof.Statement.{statement}
 use Rattle.ffi.proofs.files.njerumoy_read_cof.Tie as tie

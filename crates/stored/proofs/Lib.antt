@@ -1,0 +1,9 @@
+-- Laws of a stored set: Bytes (numbers), Floats (lists), Frame (fields), Stores (runs of stores), Answers (the ways to an answer),
+-- Laws (there and back).
+pub mod Bytes
+pub mod Floats
+pub mod Frame
+pub mod Stores
+pub mod Answers
+pub mod Laws
+pub mod Unique
