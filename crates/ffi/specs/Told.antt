@@ -44,7 +44,7 @@ abbrev pub wherePlace : {A : Type 0} → ℕ → Paper A → ℕ
 wherePlace held (answered a) = held
 wherePlace held (refused n f z) = cond (eqb n 13 || eqb n 14 || eqb n 17 || eqb n 18 || eqb n 19) (natAbs (getD z 0 (pos 0))) held
 
--- ---- of a call without an answer but that nothing was refused
+-- ---- of a call that says only whether something is refused: 0 where nothing is
 abbrev pub verdictNumber : Verdict → ℕ
 verdictNumber v = numberOf {A = ℕ} (told v (answered 0))
 

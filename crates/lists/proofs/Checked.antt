@@ -130,6 +130,19 @@ rate-pass : (k : ℕ) (l : List Float) → T (all-between (neg rate-cap) rate-ca
 unfolding ofBits
 rate-pass k l t = entries-pass 1 (pos 12) k 0 l t
 
+-- every entry within its cap: the search finds nothing
+pub caps-pass : (g h gd hd : List Float) → withinOf g h gd hd ≡ true → Verdict.Accepted ≡ capsVerdict g h gd hd
+unfolding withinOf
+caps-pass g h gd hd w =
+    let a = all-between (neg main-cap) main-cap g in
+    let b = all-between (neg main-cap) main-cap h in
+    let c = all-between (neg rate-cap) rate-cap gd in
+    let d = all-between (neg rate-cap) rate-cap hd in
+    let t1 : T (a && b && c && d) = holds w in
+    let t2 = and-l (a && b && c) d t1 in
+    let t3 = and-l (a && b) c t2 in
+    rw (main-pass 0 g (and-l a b t3), main-pass 1 h (and-r a b t3), rate-pass 2 gd (and-r (a && b) c t2), rate-pass 3 hd (and-r (a && b && c) d t1))
+
 -- ---- the lists
 pub too-short : (g h gd hd : List Float) → long g h gd hd ≡ false → Verdict.Refused Length ≡ listsVerdict g h gd hd
 unfolding listsVerdict
@@ -137,16 +150,8 @@ too-short g h gd hd e = rw e
 
 module _ (g h gd hd : List Float) (e : long g h gd hd ≡ true) where
   pub lists-pass : withinOf g h gd hd ≡ true → Verdict.Accepted ≡ listsVerdict g h gd hd
-  unfolding listsVerdict withinOf
-  lists-pass w =
-      let a = all-between (neg main-cap) main-cap g in
-      let b = all-between (neg main-cap) main-cap h in
-      let c = all-between (neg rate-cap) rate-cap gd in
-      let d = all-between (neg rate-cap) rate-cap hd in
-      let t1 : T (a && b && c && d) = holds w in
-      let t2 = and-l (a && b && c) d t1 in
-      let t3 = and-l (a && b) c t2 in
-      rw (e, main-pass 0 g (and-l a b t3), main-pass 1 h (and-r a b t3), rate-pass 2 gd (and-r (a && b) c t2), rate-pass 3 hd (and-r (a && b && c) d t1))
+  unfolding listsVerdict
+  lists-pass w = caps-pass g h gd hd w ∙ rw e
 
   pub caps-decide : (v : Verdict) → v ≡ capsVerdict g h gd hd → v ≡ listsVerdict g h gd hd
   unfolding listsVerdict

@@ -79,11 +79,9 @@ pub fn lists_long(g: &[f32], h: &[f32], g_dot: &[f32], h_dot: &[f32]) -> bool
     h_dot.len() == N_COEFF
 }
 
-// The first entry that is over its cap, list by list. A search: it has two callers, so that Sum's own
-// checks, which seldom come here, stay short.
-pub fn check_caps(g: &[f32], h: &[f32], g_dot: &[f32], h_dot: &[f32]) -> Verdict
-    ensures answer { λ r. ⌜ r ≡ capsVerdict (now (g .entry)) (now (h .entry)) (now («g_dot» .entry)) (now («h_dot» .entry)) ⌝ }
-    ensures kept { λ _. ⌜ (now (g .exit) ≡ now (g .entry)) × (now (h .exit) ≡ now (h .entry)) × (now («g_dot» .exit) ≡ now («g_dot» .entry)) × (now («h_dot» .exit) ≡ now («h_dot» .entry)) ⌝ }
+// The first entry that is over its cap, list by list. It runs only where there is one.
+fn search_caps(g: &[f32], h: &[f32], g_dot: &[f32], h_dot: &[f32]) -> Verdict
+    ensures { λ r. ⌜ r ≡ capsVerdict (now (g .entry)) (now (h .entry)) (now («g_dot» .entry)) (now («h_dot» .entry)) ⌝ }
 {
     if let Verdict::Refused(k) = check_entries(0, g, MAIN_CAP) {
         return Verdict::Refused(k);
@@ -97,6 +95,18 @@ pub fn check_caps(g: &[f32], h: &[f32], g_dot: &[f32], h_dot: &[f32]) -> Verdict
     check_entries(3, h_dot, RATE_CAP)
 }
 
+// The caps alone, whatever the lengths: for those who read or write a set. Sum's own checks are
+// `check_lists`, which has no other caller, so that the compiler puts them into it.
+pub fn check_caps(g: &[f32], h: &[f32], g_dot: &[f32], h_dot: &[f32]) -> Verdict
+    ensures answer { λ r. ⌜ r ≡ capsVerdict (now (g .entry)) (now (h .entry)) (now («g_dot» .entry)) (now («h_dot» .entry)) ⌝ }
+    ensures kept { λ _. ⌜ (now (g .exit) ≡ now (g .entry)) × (now (h .exit) ≡ now (h .entry)) × (now («g_dot» .exit) ≡ now («g_dot» .entry)) × (now («h_dot» .exit) ≡ now («h_dot» .entry)) ⌝ }
+{
+    if lists_within(g, h, g_dot, h_dot) {
+        return Verdict::Accepted;
+    }
+    search_caps(g, h, g_dot, h_dot)
+}
+
 pub fn check_lists(g: &[f32], h: &[f32], g_dot: &[f32], h_dot: &[f32]) -> Verdict
     ensures answer { λ r. ⌜ r ≡ listsVerdict (now (g .entry)) (now (h .entry)) (now («g_dot» .entry)) (now («h_dot» .entry)) ⌝ }
     ensures kept { λ _. ⌜ (now (g .exit) ≡ now (g .entry)) × (now (h .exit) ≡ now (h .entry)) × (now («g_dot» .exit) ≡ now («g_dot» .entry)) × (now («h_dot» .exit) ≡ now («h_dot» .entry)) ⌝ }
@@ -107,5 +117,5 @@ pub fn check_lists(g: &[f32], h: &[f32], g_dot: &[f32], h_dot: &[f32]) -> Verdic
     if lists_within(g, h, g_dot, h_dot) {
         return Verdict::Accepted;
     }
-    check_caps(g, h, g_dot, h_dot)
+    search_caps(g, h, g_dot, h_dot)
 }

@@ -18,7 +18,7 @@ use Rattle.tables.specs.Degree.{N-COEFF}
 use Rattle.lists.specs.Lists.{listsVerdict, long}
 use Rattle.lists.specs.Sets.{Lists, Ninety, afterwards, left, setVerdict}
 use Rattle.stored.specs.Layout.{STORED, YEAR, bytesOf, contents, extent, fieldOf, fieldsOf, floatsIn, low-first}
-use Rattle.stored.specs.Stored.{frameVerdict, readOf, setIn, storable, storedOf, storedSays, storedVerdict, writeOf, writeVerdict, written}
+use Rattle.stored.specs.Stored.{frameVerdict, listIn, readOf, setIn, storable, storedOf, storedSays, storedVerdict, writeOf, writeVerdict, written}
 use Rattle.stored.proofs.Bytes.{length-low}
 use Rattle.stored.proofs.Floats.{length-floats, list-long}
 use Rattle.stored.proofs.Frame.{fields-length, length-fields, lengths}
@@ -38,11 +38,11 @@ module _ (s : List ℕ) (v : Verdict) (e : v ≡ frameVerdict s) where
   frame-long r = let l = fields-length contents 1 0 s (omega arith) (sym e ∙ r) in omega (arith, l)
 
 -- lists that are read are long enough: 7 alone is left to ask
-pub caps-alone : (s : List ℕ) (l : Lists) (v : Verdict) → l ≡ setIn s .lists → v ≡ listsVerdict (l .g) (l .h) (l .g-dot) (l .h-dot) → v ≡ setVerdict (setIn s .lists)
+pub caps-alone : (s : List ℕ) → listsVerdict (listIn 1 s) (listIn 2 s) (listIn 3 s) (listIn 4 s) ≡ setVerdict (setIn s .lists)
 unfolding listsVerdict
-caps-alone s l v e f =
+caps-alone s =
     let n : (k : ℕ) → length (floatsIn N-COEFF (drop k s)) ≡ N-COEFF = λ k. length-floats N-COEFF (drop k s) in
-    f ∙ ap (λ (m : Lists). listsVerdict (m .g) (m .h) (m .g-dot) (m .h-dot)) e ∙ rw (n 8, n 371, n 734, n 1097)
+    rw (n 8, n 371, n 734, n 1097)
 
 -- ---- reading
 module _ (s : List ℕ) (held : Lists) (v : Verdict) (f : v ≡ storedVerdict s) where

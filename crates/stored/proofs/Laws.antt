@@ -1,4 +1,4 @@
--- There and back, over all sets and all bytes: `written-reads-back` and `read-writes-back`. Assumes nothing.
+-- There and back, over all sets and all bytes: `written-reads-back` and `read-writes-back`; and `read-passes`. Assumes nothing.
 use mathlib.Core.Path.{_≡_, refl, sym, ap, subst, _∙_}
 use mathlib.Core.Bool.{Bool, true, false, _&&_}
 use mathlib.Core.List.{List, [], _∷_, _++_}
@@ -18,7 +18,7 @@ use Rattle.refusals.specs.Paper.{answered, paper, unless, told, both}
 use Rattle.refusals.specs.declared.Refusal.the-variants.{Length, NoRoom}
 use Rattle.refusals.specs.declared.Verdict.{Verdict}
 use Rattle.refusals.specs.declared.Verdict.the-variants as Verdict
-use Rattle.refusals.proofs.Laws.{answered-one, both-accepted, check-accepted, no-answer}
+use Rattle.refusals.proofs.Laws.{told-answered, answered-one, both-accepted, check-accepted, no-answer}
 use Rattle.tables.specs.Degree.{N-COEFF}
 use Rattle.lists.specs.Lists.{capsVerdict, listsVerdict, long, main-cap, rate-cap}
 use Rattle.lists.specs.Sets.{Lists, ModelSet, Ninety, afterwards, left, lists-of, setVerdict}
@@ -132,7 +132,7 @@ module _ (s : List ℕ) (t : T (areBytes s)) (v : storedVerdict s ≡ Verdict.Ac
 
   lists-good : listsVerdict (listIn 1 s) (listIn 2 s) (listIn 3 s) (listIn 4 s) ≡ Verdict.Accepted
   unfolding storedVerdict
-  lists-good = caps-alone s (setIn s .lists) _ refl refl ∙ both-accepted (frameVerdict s) (setVerdict (setIn s .lists)) v .1
+  lists-good = caps-alone s ∙ both-accepted (frameVerdict s) (setVerdict (setIn s .lists)) v .1
 
   year-bytes : low-first YEAR (yearIn s) ≡ take YEAR (drop 3 s)
   year-bytes =
@@ -168,3 +168,13 @@ read-writes-back s into y held t e h =
     ∙ ap (λ (l : Lists). writeOf (pos (yearIn s)) l held) (u .2)
     ∙ rw (lists-good s t v, le-leb (yearIn s) 65535 (omega (arith, year-small s t v)), le-leb STORED (length held) h)
     (ap (λ (b : List ℕ). written Verdict.Accepted (b ++ drop STORED held)) (same-bytes s t v))
+
+-- in a set that is read Field's own 6 and 7 find nothing: so behind the bytes' refusals stand Field's 1 to 5 and 8 alone
+pub read-passes : (s : List ℕ) (m : ModelSet) → storedSays s ≡ answered m → listsVerdict (m .lists .g) (m .lists .h) (m .lists .g-dot) (m .lists .h-dot) ≡ Verdict.Accepted
+unfolding storedSays storedVerdict
+read-passes s m e =
+    let u = told-answered (storedVerdict s) (answered (setIn s)) m e in
+    let same : setIn s ≡ m = answered-one (setIn s) m (u .1) in
+    sym (ap (λ (k : ModelSet). listsVerdict (k .lists .g) (k .lists .h) (k .lists .g-dot) (k .lists .h-dot)) same)
+    ∙ caps-alone s
+    ∙ both-accepted (frameVerdict s) (setVerdict (setIn s .lists)) (u .0) .1

@@ -70,7 +70,7 @@ fn capped(
     ensures { λ r. ⌜ r ≡ setVerdict (setIn (now (bytes .entry)) .lists) ⌝ }
 {
     take::lists(bytes, g, h, g_dot, h_dot);
-    lists::check_lists(g, h, g_dot, h_dot)
+    lists::check_caps(g, h, g_dot, h_dot)
 }
 
 pub fn checked(

@@ -96,7 +96,10 @@ pub fn write(
     ensures answer { λ r. ⌜ written r (now (bytes .exit)) ≡ writeOf «epoch_year» (lists-of (now (g .entry)) (now (h .entry)) (now («g_dot» .entry)) (now («h_dot» .entry))) (now (bytes .entry)) ⌝ }
     ensures kept { λ _. ⌜ (now (g .exit) ≡ now (g .entry)) × (now (h .exit) ≡ now (h .entry)) × (now («g_dot» .exit) ≡ now («g_dot» .entry)) × (now («h_dot» .exit) ≡ now («h_dot» .entry)) ⌝ }
 {
-    if let Verdict::Refused(k) = lists::check_lists(g, h, g_dot, h_dot) {
+    if !lists::lists_long(g, h, g_dot, h_dot) {
+        return Verdict::Refused(Refusal::Length);
+    }
+    if let Verdict::Refused(k) = lists::check_caps(g, h, g_dot, h_dot) {
         return Verdict::Refused(k);
     }
     if !is_storable(epoch_year) {

@@ -26,13 +26,13 @@ returns-2 c =
     let o = w .before in
     (lists-pass _ _ _ _ (held (o .before .lists-long .ensures .0) (o .if1 .left)) (same (w .lists-within .ensures) (c .if2 .taken)), (refl, refl, refl, refl))
 
-check-caps-requires : tie.Need-check-caps-requires
-check-caps-requires c κs = search needs
+search-caps-requires : tie.Need-search-caps-requires
+search-caps-requires c κs = search needs
 
 returns-3 : tie.Need-returns-3
 returns-3 c =
     let o = c .before .before .before in
-    (caps-decide _ _ _ _ (held (o .before .lists-long .ensures .0) (o .if1 .left)) _ (c .check-caps .ensures .0), (refl, refl, refl, refl))
+    (caps-decide _ _ _ _ (held (o .before .lists-long .ensures .0) (o .if1 .left)) _ (c .search-caps .ensures), (refl, refl, refl, refl))
 
 pub check-lists-spec : {M : Type 1} → statement M
 check-lists-spec =
@@ -42,5 +42,5 @@ check-lists-spec =
     returns
     lists-within-requires
     returns-2
-    check-caps-requires
+    search-caps-requires
     returns-3)

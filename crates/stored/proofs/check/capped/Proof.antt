@@ -1,17 +1,17 @@
 -- `stored::check::capped` meets its contract. Assumes nothing.
-use Rattle.lists.specs.Sets.{lists-of}
-use Rattle.stored.proofs.Answers.{caps-alone}
+use mathlib.Core.Path.{ap, _∙_}
+use Rattle.lists.specs.Sets.{setVerdict}
 use borrow.Author.Needs.{needs}
 use Rattle.stored.proofs.check.capped.Statement.{statement}
 use Rattle.stored.proofs.check.capped.Tie as tie
-use Rattle.lists.proofs.check_lists.Reads as check-lists-reads
+use Rattle.lists.proofs.check_lists.Reads as check-caps-reads
 use Rattle.stored.proofs.take.lists.Reads as lists-reads
 
 lists-requires : tie.Need-lists-requires
 lists-requires c κs = search needs
 
-check-lists-requires : tie.Need-check-lists-requires
-check-lists-requires c κs = search needs
+check-caps-requires : tie.Need-check-caps-requires
+check-caps-requires c κs = search needs
 
 same-length : tie.Need-same-length
 same-length c = search needs
@@ -26,18 +26,14 @@ same-length-4 : tie.Need-same-length-4
 same-length-4 c = search needs
 
 returns : tie.Need-returns
-returns c =
-    let w = c .before .before .before .before .before .before .before .before .before .before .before .before .before in
-    let s = w .before .before .before .before .before .before .before .before .before .before .args .bytes .now in
-    let l = lists-of (w .lists .last .1 .0) (w .lists .last .1 .1 .0) (w .lists .last .1 .1 .1 .0) (w .lists .last .1 .1 .1 .1 .0) in
-    caps-alone s l (c .check-lists .result) (w .lists .ensures) (c .check-lists .ensures .0)
+returns c = c .check-caps .ensures .0 ∙ ap setVerdict (c .before .before .before .before .before .before .before .before .before .before .before .before .before .lists .ensures)
 
 pub capped-spec : {M : Type 1} → statement M
 capped-spec =
     tie.close
     (tie.spec
     lists-requires
-    check-lists-requires
+    check-caps-requires
     same-length
     same-length-2
     same-length-3
