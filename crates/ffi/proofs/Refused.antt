@@ -62,14 +62,15 @@ but cs i (fields ∷ rest) = cond (hasKey cs i) (but cs (suc i) rest) (i ∷ but
 abbrev pub all-but : List Refusal → List ℕ
 all-but ls = but (map case ls) 0 (the-type .parts)
 
-other-number : (ls : List Refusal) (k l : Refusal) → T (not (hasKey (all-but ls) (case l))) → OneOf (all-but ls) (case k) → eqb (line k .number) (line l .number) ≡ false
-other-number ls k l n c = ne-eqb _ _ (λ e. miss (all-but ls) (case l) n (subst (OneOf (all-but ls)) (same-case k l e) c))
+-- over any list of cases, so that it is computed once
+other-number : (cs : List ℕ) (k l : Refusal) → T (not (hasKey cs (case l))) → OneOf cs (case k) → eqb (line k .number) (line l .number) ≡ false
+other-number cs k l n c = ne-eqb _ _ (λ e. miss cs (case l) n (subst (OneOf cs) (same-case k l e) c))
 
 pub entry-kept : (held : List ℕ) (k : Refusal) → OneOf (all-but (Coefficient 0 0 ∷ [])) (case k) → held ≡ entryPlace held (paper {A = ℕ} k)
-entry-kept held k c = rw (other-number (Coefficient 0 0 ∷ []) k (Coefficient 0 0) tt c)
+entry-kept held k c = rw (other-number (all-but (Coefficient 0 0 ∷ [])) k (Coefficient 0 0) tt c)
 
 pub years-kept : (held : List ℤ) (k : Refusal) → OneOf (all-but (OtherEpoch (pos 0) (pos 0) ∷ [])) (case k) → held ≡ yearsPlace held (paper {A = ℕ} k)
-years-kept held k c = rw (other-number (OtherEpoch (pos 0) (pos 0) ∷ []) k (OtherEpoch (pos 0) (pos 0)) tt c)
+years-kept held k c = rw (other-number (all-but (OtherEpoch (pos 0) (pos 0) ∷ [])) k (OtherEpoch (pos 0) (pos 0)) tt c)
 
 -- the refusals that tell where a reader stopped
 abbrev pub tells-where : List Refusal
@@ -78,12 +79,16 @@ tells-where = Malformed 0 ∷ OutOfOrder 0 ∷ WrongTag 0 ∷ WrongLength 0 ∷ 
 none-of : {A : Type 0} (a b c d e : Bool) (x y : A) → a ≡ false → b ≡ false → c ≡ false → d ≡ false → e ≡ false → y ≡ cond (a || b || c || d || e) x y
 none-of a b c d e x y f g h i j = rw (f, g, h, i, j)
 
-pub where-kept : (held : ℕ) (k : Refusal) → OneOf (all-but tells-where) (case k) → held ≡ wherePlace held (paper {A = ℕ} k)
-where-kept held k c =
+told-nowhere : (cs : List ℕ) (held : ℕ) (k : Refusal) → T (not (hasKey cs (case (Malformed 0)))) → T (not (hasKey cs (case (OutOfOrder 0)))) → T (not (hasKey cs (case (WrongTag 0))))
+    → T (not (hasKey cs (case (WrongLength 0)))) → T (not (hasKey cs (case (WrongEnd 0)))) → OneOf cs (case k) → held ≡ wherePlace held (paper {A = ℕ} k)
+told-nowhere cs held k m o t l e c =
     let n = line k .number in
     none-of (eqb n 13) (eqb n 14) (eqb n 17) (eqb n 18) (eqb n 19) (natAbs (getD (line k .wholes) 0 (pos 0))) held
-    (other-number tells-where k (Malformed 0) tt c)
-    (other-number tells-where k (OutOfOrder 0) tt c)
-    (other-number tells-where k (WrongTag 0) tt c)
-    (other-number tells-where k (WrongLength 0) tt c)
-    (other-number tells-where k (WrongEnd 0) tt c)
+    (other-number cs k (Malformed 0) m c)
+    (other-number cs k (OutOfOrder 0) o c)
+    (other-number cs k (WrongTag 0) t c)
+    (other-number cs k (WrongLength 0) l c)
+    (other-number cs k (WrongEnd 0) e c)
+
+pub where-kept : (held : ℕ) (k : Refusal) → OneOf (all-but tells-where) (case k) → held ≡ wherePlace held (paper {A = ℕ} k)
+where-kept held k c = told-nowhere (all-but tells-where) held k tt tt tt tt tt c

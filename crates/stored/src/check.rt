@@ -9,13 +9,13 @@ ghost use mathlib.Core.Path.{_≡_};
 ghost use Prim.Native.Nat.{_≤_};
 ghost use lib.ListN.{length};
 ghost use Rattle.lists.specs.Sets.{Ninety, lists-of, setVerdict};
-ghost use Rattle.stored.specs.Layout.{STORED};
+ghost use Rattle.stored.specs.Layout.{LIST, STORED};
 ghost use Rattle.stored.specs.Stored.{fieldVerdict, frameVerdict, setIn, storedVerdict};
 
 // One field. The place of its tag is `at`.
 fn field(bytes: &[u8], at: usize, tag: usize, n: usize) -> Verdict
-    requires { ⌜ at ≤ 1815 ⌝ }
-    requires { ⌜ n ≤ 360 ⌝ }
+    requires { ⌜ at ≤ STORED ⌝ }
+    requires { ⌜ n ≤ LIST ⌝ }
     ensures { λ r. ⌜ r ≡ fieldVerdict tag n at (now (bytes .entry)) ⌝ }
 {
     let end = bytes.len();

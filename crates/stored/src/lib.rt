@@ -5,7 +5,6 @@ mod layout;
 mod put;
 mod take;
 
-use layout::HEAD;
 use layout::STORED_LENGTH;
 use lists::ReadAnswer;
 use refusals::Refusal;
@@ -70,7 +69,7 @@ fn read_by(
         return ReadAnswer::Refused(k);
     }
     take::lists(bytes, g, h, g_dot, h_dot);
-    ReadAnswer::Epoch(take::two_at(bytes, HEAD) as i32)
+    ReadAnswer::Epoch(take::two_at(bytes, layout::YEAR_CONTENT) as i32)
 }
 
 // Two bytes hold the year.

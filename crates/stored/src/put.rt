@@ -80,7 +80,7 @@ pub fn set(bytes: &mut [u8], epoch_year: usize, g: &[f32], h: &[f32], g_dot: &[f
     requires { ⌜ Ninety (lists-of (now g) (now h) (now «g_dot») (now «h_dot»)) ⌝ }
     ensures { λ _. ⌜ now (bytes .exit) ≡ storedOf «epoch_year» (lists-of (now (g .entry)) (now (h .entry)) (now («g_dot» .entry)) (now («h_dot» .entry))) ++ drop STORED (now (bytes .entry)) ⌝ }
 {
-    year(bytes, 0, 1, epoch_year);
+    year(bytes, layout::YEAR, 1, epoch_year);
     list(bytes, layout::G, 2, g);
     list(bytes, layout::H, 3, h);
     list(bytes, layout::G_DOT, 4, g_dot);
