@@ -36,6 +36,7 @@ static const char *const WORDS[] = {
     "a length in the stored set is not that of its field",
     "the stored set is cut short, or bytes are left over",
     "there is no room for the stored set, or its epoch year is not from 0 to 65535",
+    "there is no yearly change, since H is zero",
 };
 
 /* What is asked: degrees, metres, and a day. */
@@ -44,12 +45,12 @@ struct question {
     int32_t year, day;
 };
 
-/* What is printed. */
+/* What is printed. `changing` says whether there are rates. */
 struct shown {
-    float xyz[3], errors[8], allowances[3], h, f, d, d_uncertainty, i, variation;
+    float xyz[3], errors[8], allowances[3], rates[7], h, f, d, d_uncertainty, i, variation;
     uint32_t zone, given;
     int32_t years[2];
-    int near_pole;
+    int near_pole, changing;
 };
 
 static int read_float(const char *word, float *number) {
@@ -104,27 +105,35 @@ static int near_pole(const struct question *q, const struct njerumoy_set *set) {
     return xyz[0] == 0.0f && xyz[1] == 0.0f && xyz[2] == 0.0f;
 }
 
-/* The allowance takes the latitude and the longitude as pairs. */
-static uint32_t allowance_at(const struct question *q, const struct njerumoy_set *set,
-                             struct shown *s) {
-    struct njerumoy_place place = {.height = q->height};
-    size_t entry[2];
+/* The allowance and the rates take the latitude and the longitude as pairs. */
+static uint32_t place_at(const struct question *q, struct njerumoy_place *place) {
+    place->height = q->height;
+    const uint32_t refusal = njerumoy_sine_and_cosine_into(&place->latitude, q->lat);
+    return refusal != 0 ? refusal : njerumoy_sine_and_cosine_into(&place->longitude, q->lon);
+}
 
-    uint32_t refusal = njerumoy_sine_and_cosine_into(&place.latitude, q->lat);
-    if (refusal == 0) refusal = njerumoy_sine_and_cosine_into(&place.longitude, q->lon);
-    if (refusal == 0) {
-        refusal =
-            njerumoy_allowance_with(set, place, q->year, q->day, s->allowances, entry, s->years);
-    }
-    return refusal;
+/* Where there is no yearly change, the field is shown without one. */
+static uint32_t rates_at(const struct question *q, const struct njerumoy_set *set,
+                         struct njerumoy_place place, struct shown *s) {
+    size_t entry[2];
+    const uint32_t refusal =
+        njerumoy_rates_with(set, place, q->year, q->day, s->rates, entry, s->years);
+    s->changing = refusal == 0;
+    return refusal == NJERUMOY_ZERO_DIVISOR ? 0 : refusal;
 }
 
 static uint32_t field_at(const struct question *q, const struct njerumoy_set *set, struct shown *s) {
+    struct njerumoy_place place;
     size_t entry[2];
 
     uint32_t refusal = njerumoy_field_in_degrees_with(set, q->height, q->lat, q->lon, q->year, q->day,
                                                       s->xyz, s->errors, entry, s->years);
-    if (refusal == 0) refusal = allowance_at(q, set, s);
+    if (refusal == 0) refusal = place_at(q, &place);
+    if (refusal == 0) {
+        refusal =
+            njerumoy_allowance_with(set, place, q->year, q->day, s->allowances, entry, s->years);
+    }
+    if (refusal == 0) refusal = rates_at(q, set, place, s);
     if (refusal == 0) s->near_pole = near_pole(q, set);
     return refusal;
 }
@@ -160,15 +169,39 @@ static double one_south(float variation) {
     return deg < -179.995 ? deg + 360.0 : deg;
 }
 
+/* A row: what is shown, its uncertainty, and its yearly change where there is one. The uncertainty is
+ * given its room only where something follows. */
+static void print_strength(const struct shown *s, char name, float strength, int error, int rate) {
+    printf("%c  %9.1f nT  +- %*.0f", name, (double)strength, s->changing ? -6 : 0,
+           (double)s->errors[error]);
+    if (s->changing) printf(" %+8.1f nT/yr", (double)s->rates[rate]);
+    putchar('\n');
+}
+
+/* The change of an angle has a digit more than the angle: five years of it, as long as a set serves,
+ * are then still right to the angle's last digit. */
+static void print_angle(const struct shown *s, char name, float angle, float uncertainty, int rate) {
+    printf("%c  %9.2f deg +- %*.2f", name, (double)angle, s->changing ? -6 : 0, (double)uncertainty);
+    if (s->changing) printf(" %+8.3f deg/yr", (double)s->rates[rate]);
+    putchar('\n');
+}
+
+static void print_rows(const struct shown *s) {
+    print_strength(s, 'X', s->xyz[0], NJERUMOY_ERROR_X, NJERUMOY_RATE_X);
+    print_strength(s, 'Y', s->xyz[1], NJERUMOY_ERROR_Y, NJERUMOY_RATE_Y);
+    print_strength(s, 'Z', s->xyz[2], NJERUMOY_ERROR_Z, NJERUMOY_RATE_Z);
+    print_strength(s, 'H', s->h, NJERUMOY_ERROR_H, NJERUMOY_RATE_H);
+    print_strength(s, 'F', s->f, NJERUMOY_ERROR_F, NJERUMOY_RATE_F);
+    print_angle(s, 'D', s->d, s->d_uncertainty, NJERUMOY_RATE_DECLINATION);
+    print_angle(s, 'I', s->i, s->errors[NJERUMOY_ERROR_INCLINATION], NJERUMOY_RATE_INCLINATION);
+    if (!s->changing) {
+        printf("rates  refusal %d: %s\n", NJERUMOY_ZERO_DIVISOR, WORDS[NJERUMOY_ZERO_DIVISOR]);
+    }
+}
+
 static void print(const struct njerumoy_set *set, const struct shown *s) {
     const char *const zones[] = {"none", "blackout", "caution"};
-    printf("X  %9.1f nT  +- %.0f\n", (double)s->xyz[0], (double)s->errors[NJERUMOY_ERROR_X]);
-    printf("Y  %9.1f nT  +- %.0f\n", (double)s->xyz[1], (double)s->errors[NJERUMOY_ERROR_Y]);
-    printf("Z  %9.1f nT  +- %.0f\n", (double)s->xyz[2], (double)s->errors[NJERUMOY_ERROR_Z]);
-    printf("H  %9.1f nT  +- %.0f\n", (double)s->h, (double)s->errors[NJERUMOY_ERROR_H]);
-    printf("F  %9.1f nT  +- %.0f\n", (double)s->f, (double)s->errors[NJERUMOY_ERROR_F]);
-    printf("D  %9.2f deg +- %.2f\n", (double)s->d, (double)s->d_uncertainty);
-    printf("I  %9.2f deg +- %.2f\n", (double)s->i, (double)s->errors[NJERUMOY_ERROR_INCLINATION]);
+    print_rows(s);
     printf("zone   %s\n", zones[s->zone]);
     if (s->given) printf("grid   %.2f deg\n", one_south(s->variation));
     printf("epoch  %d\n", (int)set->epoch_year);

@@ -86,7 +86,9 @@ enum {
     NJERUMOY_WRONG_END = 19,
     /* a set cannot be stored: the output is shorter than a stored set, or the epoch year is outside 0
      * to 65535 */
-    NJERUMOY_NO_ROOM = 20
+    NJERUMOY_NO_ROOM = 20,
+    /* there are no yearly rates: H is zero, and is a divisor of them */
+    NJERUMOY_ZERO_DIVISOR = 21
 };
 
 /* A pair (sine, cosine) is off the circle where one of them is not finite, or the sum of their
@@ -212,6 +214,44 @@ uint32_t njerumoy_allowance(float height, float sin_phi, float cos_phi, float si
                             size_t h_length, const float *g_dot, size_t g_dot_length,
                             const float *h_dot, size_t h_dot_length, float allowances[3],
                             size_t entry[2], int32_t years[2]);
+
+/* Rates: the yearly change of the field at a place and a day, to bring an old sheet forward.
+ *
+ * height .. h_dot   as in njerumoy_field
+ * rates         by NJERUMOY_RATE_..: nanotesla a year of X, Y, Z, H and F, degrees a year of the
+ *               declination and the inclination. Each is finite
+ * entry, years  as in njerumoy_field
+ *
+ * The rates of X, Y and Z are what njerumoy_field works out of g_dot and h_dot in the place of g and
+ * h, with the offset 0: so they are the same on all days of the epoch. Each is within
+ * M / 131072 + 2^-20 of the exact sum of the rates, with M as in njerumoy_allowance but of the rates.
+ * Near a pole orders 2 and above are left out, as of the field: with the published sets that is up to
+ * 0.07 nT a year in X and Y. The other four follow from them and from the field of the day, with H and
+ * F as njerumoy_horizontal and njerumoy_total give them:
+ *
+ *   declination   (Y rate * X - Y * X rate) / (H * H), in degrees
+ *   inclination   (Z rate * H - Z * H rate) / (F * F), in degrees
+ *   H             (X * X rate + Y * Y rate) / H
+ *   F             (X * X rate + Y * Y rate + Z * Z rate) / F
+ *
+ * Refusals, in this order: 1, 2, 3, 4, 5, 6, 7, 8 as in njerumoy_field; 21, exactly where H is zero.
+ * Where H is above zero so is F, and there is an answer. */
+uint32_t njerumoy_rates(float height, float sin_phi, float cos_phi, float sin_lambda,
+                        float cos_lambda, int32_t year, int32_t day_of_year, int32_t epoch_year,
+                        const float *g, size_t g_length, const float *h, size_t h_length,
+                        const float *g_dot, size_t g_dot_length, const float *h_dot,
+                        size_t h_dot_length, float rates[7], size_t entry[2], int32_t years[2]);
+
+/* Where each rate stands in `rates`. */
+enum {
+    NJERUMOY_RATE_X = 0,
+    NJERUMOY_RATE_Y = 1,
+    NJERUMOY_RATE_Z = 2,
+    NJERUMOY_RATE_DECLINATION = 3,
+    NJERUMOY_RATE_INCLINATION = 4,
+    NJERUMOY_RATE_H = 5,
+    NJERUMOY_RATE_F = 6
+};
 
 /* Sum: the sums over degree and order, at a geocentric place.
  *

@@ -130,6 +130,16 @@ static inline uint32_t njerumoy_allowance_with(const struct njerumoy_set *set,
                               allowances, entry, years);
 }
 
+static inline uint32_t njerumoy_rates_with(const struct njerumoy_set *set,
+                                           struct njerumoy_place place, int32_t year,
+                                           int32_t day_of_year, float rates[7], size_t entry[2],
+                                           int32_t years[2]) {
+    return njerumoy_rates(place.height, place.latitude.sine, place.latitude.cosine,
+                          place.longitude.sine, place.longitude.cosine, year, day_of_year,
+                          set->epoch_year, set->g, set->g_length, set->h, set->h_length, set->g_dot,
+                          set->g_dot_length, set->h_dot, set->h_dot_length, rates, entry, years);
+}
+
 /* The offset counts from the set's epoch: njerumoy_epoch gives both. The set's year is not asked. */
 static inline uint32_t njerumoy_sum_with(const struct njerumoy_set *set,
                                          struct njerumoy_pair colatitude,

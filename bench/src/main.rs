@@ -15,6 +15,7 @@ use oracle::entries::{self, Place};
 use oracle::field::WarningZone;
 use oracle::layout::published_file;
 use oracle::models::{WmmErrorModel, WMM_ERROR_MODELS};
+use oracle::rates::rates;
 use std::env;
 use std::process::ExitCode;
 
@@ -85,6 +86,19 @@ fn rust_field(case: &FieldCase, sets: &[Both]) -> Bits {
     )
     .map_err(refused)
     .and_then(|v| bits(v.x, v.y, v.z))
+}
+
+fn our_rates(case: &FieldCase, sets: &[Both]) -> Result<[u32; 7], u32> {
+    let set = &sets[case.set].ours;
+    njerumoy::rates(case.height, case.phi, case.lambda, case.day, set)
+        .map_err(|k| k.number())
+        .map(|v| [v.x, v.y, v.z, v.declination, v.inclination, v.h, v.f].map(f32::to_bits))
+}
+
+fn rust_rates(case: &FieldCase, sets: &[Both]) -> Result<[u32; 7], u32> {
+    rates(&place(case), &sets[case.set].rust)
+        .map_err(refused)
+        .map(|seven| seven.map(f32::to_bits))
 }
 
 fn our_strengths(case: &Components) -> Bits {
@@ -182,6 +196,17 @@ fn field_listed(
     )
 }
 
+/// The row of the yearly rates, on the cases of the row Field.
+fn yearly_rates(rounds: usize, fields: &[FieldCase], sets: &[Both]) -> bool {
+    row(
+        "Rates",
+        rounds,
+        fields,
+        |c| our_rates(c, sets),
+        |c| rust_rates(c, sets),
+    )
+}
+
 fn main() -> ExitCode {
     let rounds = match env::args().nth(1).map(|word| word.parse()) {
         None => ROUNDS,
@@ -222,6 +247,7 @@ fn main() -> ExitCode {
             |c| our_field(c, &sets),
             |c| rust_field(c, &sets),
         ),
+        yearly_rates(rounds, &fields, &sets),
         field_listed("Field, 2 records", 2, rounds, &fields, &sets),
         field_listed("Field, 20 records", 20, rounds, &fields, &sets),
         row(

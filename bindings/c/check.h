@@ -9,6 +9,7 @@
 #include "njerumoy_published.h"
 
 #define N NJERUMOY_LIST_LENGTH
+#define COUNT(a) (sizeof(a) / sizeof *(a))
 
 static int checks, failures;
 

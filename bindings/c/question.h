@@ -6,13 +6,15 @@
 
 #include "check.h"
 
+static const double RADIAN = 0.017453292519943295769;
+
 /* A place, a day and a set, and all that a call is lent for its results. */
 struct field {
     float height, sin_phi, cos_phi, sin_lambda, cos_lambda;
     int32_t year, day, epoch;
     float lists[4][N];
     size_t lengths[4];
-    float xyz[3], errors[8], allowances[3];
+    float xyz[3], errors[8], allowances[3], rates[7];
     size_t entry[2];
     int32_t years[2];
 };
@@ -20,7 +22,7 @@ struct field {
 /* 80 north, 0 east, sea level, the first day of 2025: an accepted question. */
 static inline struct field question(void) {
     struct field q;
-    const float phi = 80.0f * 0.017453292519943295f;
+    const float phi = 80.0f * (float)RADIAN;
     q.height = 0.0f;
     q.sin_phi = sinf(phi);
     q.cos_phi = cosf(phi);
@@ -36,9 +38,28 @@ static inline struct field question(void) {
     for (int i = 0; i < 4; i++) q.lengths[i] = N;
     for (int i = 0; i < 3; i++) q.xyz[i] = q.allowances[i] = HELD;
     for (int i = 0; i < 8; i++) q.errors[i] = HELD;
+    for (int i = 0; i < 7; i++) q.rates[i] = HELD;
     for (int i = 0; i < 2; i++) q.entry[i] = HELD_SIZE;
     for (int i = 0; i < 2; i++) q.years[i] = HELD_YEAR;
     return q;
+}
+
+/* Alters a question so that Field refuses it by one of its own numbers, 1 to 8. */
+static inline void refuse_by(struct field *q, uint32_t number) {
+    switch (number) {
+        case NJERUMOY_HEIGHT: q->height = 850001.0f; break;
+        case NJERUMOY_LATITUDE: q->cos_phi = -q->cos_phi; break;
+        case NJERUMOY_LONGITUDE: q->cos_lambda = 0.5f; break;
+        case NJERUMOY_DAY_OF_YEAR: q->day = 366; break;
+        case NJERUMOY_EPOCH_YEAR: q->year = 2030; break;
+        case NJERUMOY_LENGTH: q->lengths[2] = 89; break;
+        case NJERUMOY_COEFFICIENT: q->lists[3][89] = -4097.0f; break;
+        default: q->epoch = 2020; break;
+    }
+}
+
+static inline int near(float x, double exact, double most) {
+    return fabs((double)x - exact) <= most;
 }
 
 static inline struct njerumoy_set set_of(const struct field *q) {
@@ -60,6 +81,7 @@ static inline int same(const struct field *a, const struct field *b) {
     return memcmp(a->xyz, b->xyz, sizeof a->xyz) == 0 &&
            memcmp(a->errors, b->errors, sizeof a->errors) == 0 &&
            memcmp(a->allowances, b->allowances, sizeof a->allowances) == 0 &&
+           memcmp(a->rates, b->rates, sizeof a->rates) == 0 &&
            memcmp(a->entry, b->entry, sizeof a->entry) == 0 &&
            memcmp(a->years, b->years, sizeof a->years) == 0 &&
            memcmp(a->lists, b->lists, sizeof a->lists) == 0;
@@ -69,6 +91,7 @@ static inline int kept_results(const struct field *q) {
     int kept = 1;
     for (int i = 0; i < 3; i++) kept = kept && q->xyz[i] == HELD && q->allowances[i] == HELD;
     for (int i = 0; i < 8; i++) kept = kept && q->errors[i] == HELD;
+    for (int i = 0; i < 7; i++) kept = kept && q->rates[i] == HELD;
     return kept;
 }
 

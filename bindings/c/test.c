@@ -2,8 +2,8 @@
  * that a place keeps what it held where the call has no result for it. Each question that takes a set
  * is asked in both forms, with loose lists and with the set in one piece, and all that is told must
  * be the same, bit for bit. tools/test-library runs it. test_angles.c has angles in degrees,
- * test_cof.c the coefficient files, test_records.c the lent error records, and test_stored.c and
- * test_stored_field.c the stored sets. */
+ * test_cof.c the coefficient files, test_rates.c the yearly rates, test_records.c the lent error
+ * records, and test_stored.c and test_stored_field.c the stored sets. */
 #include "question.h"
 
 static uint32_t ask(struct field *q) {
@@ -32,10 +32,6 @@ static uint32_t ask_allowance(struct field *q) {
     return told;
 }
 
-static int near(float x, double printed, double digit) {
-    return fabs((double)x - printed) <= digit / 2;
-}
-
 /* Nothing is written but what the refusal carries. Field and Allowance refuse alike. */
 static int refused(struct field *q, uint32_t number) {
     struct field b = *q;
@@ -48,7 +44,8 @@ static int refused(struct field *q, uint32_t number) {
 static void test_field(void) {
     struct field q = question();
     CHECK(ask(&q) == 0);
-    CHECK(near(q.xyz[0], 6521.6, 0.1) && near(q.xyz[1], 145.9, 0.1) && near(q.xyz[2], 54791.5, 0.1));
+    CHECK(near(q.xyz[0], 6521.6, 0.05) && near(q.xyz[1], 145.9, 0.05));
+    CHECK(near(q.xyz[2], 54791.5, 0.05));
     CHECK(q.errors[NJERUMOY_ERROR_SIGMA_C] == 0.26f && q.errors[NJERUMOY_ERROR_SIGMA_V] == 5417.0f);
     CHECK(q.errors[NJERUMOY_ERROR_INCLINATION] == 0.20f && q.errors[NJERUMOY_ERROR_F] == 138.0f);
     CHECK(q.errors[NJERUMOY_ERROR_H] == 133.0f && q.errors[NJERUMOY_ERROR_X] == 137.0f);

@@ -6,10 +6,6 @@
 
 #include "question.h"
 
-#define COUNT(a) (sizeof(a) / sizeof *(a))
-
-static const double RADIAN = 0.017453292519943295769;
-
 /* The step after 180, and that after 2^60, among what is refused. */
 static const float NO_ANGLES[] = {NAN,           -NAN,           INFINITY, -INFINITY,
                                   0x1.680002p7f, -0x1.680002p7f, 360.0f,   -FLT_MAX};
@@ -251,13 +247,13 @@ static void test_as_of_pairs(void) {
 static void test_row(void) {
     struct field q = question();
     CHECK(ask(&q, 80.0f, 0.0f) == NJERUMOY_ANSWER && kept_entry(&q) && kept_years(&q));
-    CHECK(fabs((double)q.xyz[0] - 6521.6) <= 0.05 && fabs((double)q.xyz[1] - 145.9) <= 0.05);
-    CHECK(fabs((double)q.xyz[2] - 54791.5) <= 0.05);
+    CHECK(near(q.xyz[0], 6521.6, 0.05) && near(q.xyz[1], 145.9, 0.05));
+    CHECK(near(q.xyz[2], 54791.5, 0.05));
     CHECK(q.errors[NJERUMOY_ERROR_INCLINATION] == 0.20f && q.errors[NJERUMOY_ERROR_Z] == 141.0f);
     float d = HELD, i = HELD;
     CHECK(njerumoy_field_declination(q.xyz[0], q.xyz[1], q.xyz[2], &d) == NJERUMOY_ANSWER);
     CHECK(njerumoy_inclination(q.xyz[0], q.xyz[1], q.xyz[2], &i) == NJERUMOY_ANSWER);
-    CHECK(fabs((double)d - 1.28) <= 0.005 && fabs((double)i - 83.21) <= 0.005);
+    CHECK(near(d, 1.28, 0.005) && near(i, 83.21, 0.005));
 }
 
 /* Nothing is written but what the refusal carries. */

@@ -240,22 +240,6 @@ static void test_other_records(void) {
     }
 }
 
-/* A question that Field refuses by one of its own numbers, 1 to 8. */
-static struct field refused_question(uint32_t number) {
-    struct field q = question();
-    switch (number) {
-        case NJERUMOY_HEIGHT: q.height = 850001.0f; break;
-        case NJERUMOY_LATITUDE: q.cos_phi = -q.cos_phi; break;
-        case NJERUMOY_LONGITUDE: q.cos_lambda = 0.5f; break;
-        case NJERUMOY_DAY_OF_YEAR: q.day = 366; break;
-        case NJERUMOY_EPOCH_YEAR: q.year = 2030; break;
-        case NJERUMOY_LENGTH: q.lengths[2] = 89; break;
-        case NJERUMOY_COEFFICIENT: q.lists[3][89] = -4097.0f; break;
-        default: q.epoch = 2020; break;
-    }
-    return q;
-}
-
 /* Each of 1 to 8 comes before 15 and 12, with all that it carries. */
 static void test_order(void) {
     const record next = made(2030, 1.0f);
@@ -263,7 +247,8 @@ static void test_order(void) {
                                      list_of_one(with_figure(OF_2025, 7, NAN))};
     for (uint32_t number = 1; number <= 8; number++) {
         for (int i = 0; i < 4; i++) {
-            struct field q = refused_question(number);
+            struct field q = question();
+            refuse_by(&q, number);
             CHECK(ask(&q, &lists[i]) == number && kept_all(&q, number));
             CHECK(number != 7 || (q.entry[0] == 3 && q.entry[1] == 89));
             CHECK(number != 8 || (q.years[0] == 2025 && q.years[1] == 2020));

@@ -11,6 +11,7 @@ mod listed;
 mod lists;
 mod pairs;
 mod places;
+pub mod rates;
 pub mod records;
 mod rng;
 mod south;
@@ -22,6 +23,7 @@ use crate::format::{put_case, Case};
 use crate::replay::Replay;
 pub use decimals::planned_words;
 pub use listed::TURNS;
+pub use pairs::{AXES, LATITUDES, LONGITUDES, ROUND_LATITUDES};
 use places::DAYS;
 pub use rng::Rng;
 use rng::{plans, singles, Walk};
@@ -52,6 +54,7 @@ pub enum Kind {
     South,
     Sread,
     Swrite,
+    Rates,
 }
 
 /// Every kind of a list of all kinds, its name on the command line, and its share of a mixed list. A
@@ -70,9 +73,9 @@ pub const KINDS: [(Kind, &str, usize); 10] = [
 ];
 
 /// The kinds that come only where they are named: those with lists of error records, those with
-/// angles in degrees, those for due south, and those with stored sets. So a list of all kinds from a
-/// seed is what it was before there were such lines.
-pub const NAMED_KINDS: [(Kind, &str, usize); 9] = [
+/// angles in degrees, those for due south, those with stored sets, and those of yearly rates. So a list
+/// of all kinds from a seed is what it was before there were such lines.
+pub const NAMED_KINDS: [(Kind, &str, usize); 10] = [
     (Kind::Flist, "FLIST", 60),
     (Kind::Ulist, "ULIST", 60),
     (Kind::Trig, "TRIG", 60),
@@ -82,17 +85,19 @@ pub const NAMED_KINDS: [(Kind, &str, usize); 9] = [
     (Kind::South, "SOUTH", 60),
     (Kind::Sread, "SREAD", 60),
     (Kind::Swrite, "SWRITE", 60),
+    (Kind::Rates, "RATES", 60),
 ];
 
 pub struct Generator {
     rng: Rng,
     pools: Pools,
     replay: Replay,
-    /// How many cases more the set in force serves, whether it is a special one, and which of the
-    /// published ones it is.
+    /// How many cases more the set in force serves, whether it is a special one, which of the
+    /// published ones it is, and on what day it is weak.
     serves: usize,
     special: bool,
     published: Option<usize>,
+    weak_day: Option<(i32, i32)>,
     /// The walk over the planned list of each kind of `KINDS`, in the order of `Kind`.
     walks: [Walk; KINDS.len()],
     /// The planned words of DEC and WHOLE.
@@ -116,6 +121,7 @@ pub struct Generator {
     listed_walks: listed::Walks,
     degree_walks: degrees::Walks,
     stored_walks: stored::Walks,
+    rates_walks: rates::Walks,
 }
 
 impl Generator {
@@ -170,6 +176,7 @@ impl Generator {
             serves: 0,
             special: false,
             published: None,
+            weak_day: None,
             sum_ways,
             field_ways,
             epoch_ways,
@@ -178,6 +185,7 @@ impl Generator {
             listed_walks: listed::Walks::new(seed),
             degree_walks,
             stored_walks: stored::Walks::new(seed),
+            rates_walks: rates::Walks::new(seed, &field_ways),
         }
     }
 
@@ -218,6 +226,7 @@ impl Generator {
             Kind::Flist | Kind::Ulist => Case::Listed(self.listed(kind, out)),
             Kind::South => self.south_case(),
             Kind::Sread | Kind::Swrite => self.stored_case(kind, out),
+            Kind::Rates => Case::Rates(self.rates_place(out)),
             _ => Case::InDegrees(self.in_degrees(kind, out)),
         }
     }

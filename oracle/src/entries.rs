@@ -1,6 +1,6 @@
 //! The public entries, with document 01's refusals in document 01's order.
 use crate::field::{
-    self, field_at_offset, one_south, synthesize_geocentric_xyz, GeomagneticField, WarningZone,
+    self, one_south, synthesize_geocentric_xyz, Geocentric, GeomagneticField, WarningZone,
     MAX_HEIGHT_KM, MAX_HEIGHT_M, MAX_LATITUDE_DEG, MAX_LONGITUDE_DEG, MIN_HEIGHT_KM, MIN_HEIGHT_M,
     MIN_LATITUDE_DEG, MIN_LONGITUDE_DEG,
 };
@@ -8,80 +8,8 @@ use crate::models::{
     date_to_epoch_year, days_in_year, error_model_by_epoch_year, years_since_epoch, WmmErrorModel,
     WmmModel, BUNDLED_MODELS_VALIDITY_RANGE, WMM_ERROR_MODELS,
 };
+pub use crate::refusal::Refusal;
 use crate::synthesis::N_COEFF;
-
-/// Why an entry gives no result. The numbers are document 01's.
-#[derive(Copy, Clone, Debug, PartialEq)]
-pub enum Refusal {
-    /// 1: the two limits, in kilometres.
-    Height { min_km: f32, max_km: f32 },
-    /// 2
-    Latitude,
-    /// 3
-    Longitude,
-    /// 4
-    DayOfYear,
-    /// 5: the first and the last day that a set answers for, as (year, day of year).
-    EpochYear { first: (i32, i32), last: (i32, i32) },
-    /// 6
-    Length,
-    /// 7: the list (0 g, 1 h, 2 g_dot, 3 h_dot) and the index from 0.
-    Coefficient { list: usize, index: usize },
-    /// 8: the epoch years of the day and of the set.
-    OtherEpoch { of_day: i32, of_set: i32 },
-    /// 9
-    Colatitude,
-    /// 10
-    Ratio,
-    /// 11
-    Offset,
-    /// 12
-    Unusable,
-    /// 13: the number of the line, from 1.
-    Malformed { line: usize },
-    /// 14: the number of the line that is out of order, or that should have been there.
-    OutOfOrder { line: usize },
-    /// 15
-    NoErrorRecord,
-    /// 16
-    Angle,
-    /// 17: the place of the tag in the stored bytes, from 0.
-    WrongTag { place: usize },
-    /// 18: the place of the length's first byte.
-    WrongLength { place: usize },
-    /// 19: where the bytes end too soon, or where the first byte left over stands.
-    WrongEnd { place: usize },
-    /// 20
-    NoRoom,
-}
-
-impl Refusal {
-    /// Document 01's number.
-    pub fn number(&self) -> u32 {
-        match self {
-            Refusal::Height { .. } => 1,
-            Refusal::Latitude => 2,
-            Refusal::Longitude => 3,
-            Refusal::DayOfYear => 4,
-            Refusal::EpochYear { .. } => 5,
-            Refusal::Length => 6,
-            Refusal::Coefficient { .. } => 7,
-            Refusal::OtherEpoch { .. } => 8,
-            Refusal::Colatitude => 9,
-            Refusal::Ratio => 10,
-            Refusal::Offset => 11,
-            Refusal::Unusable => 12,
-            Refusal::Malformed { .. } => 13,
-            Refusal::OutOfOrder { .. } => 14,
-            Refusal::NoErrorRecord => 15,
-            Refusal::Angle => 16,
-            Refusal::WrongTag { .. } => 17,
-            Refusal::WrongLength { .. } => 18,
-            Refusal::WrongEnd { .. } => 19,
-            Refusal::NoRoom => 20,
-        }
-    }
-}
 
 /// A lent set: an epoch year and four lists of any length, g, h, g_dot, h_dot.
 #[derive(Clone, Debug, Default, PartialEq)]
@@ -172,7 +100,7 @@ pub fn field(
     day: i32,
     set: &Set,
 ) -> Result<GeomagneticField, Refusal> {
-    field_by(
+    let place = Place {
         height,
         sin_phi,
         cos_phi,
@@ -180,58 +108,8 @@ pub fn field(
         cos_lambda,
         year,
         day,
-        set.epoch_year,
-        set.slices(),
-    )
-}
-
-/// The same with the epoch year and the four lists of a set.
-#[allow(clippy::too_many_arguments)]
-fn field_by(
-    height: f32,
-    sin_phi: f32,
-    cos_phi: f32,
-    sin_lambda: f32,
-    cos_lambda: f32,
-    year: i32,
-    day: i32,
-    set_year: i32,
-    lists: [&[f32]; 4],
-) -> Result<GeomagneticField, Refusal> {
-    if !within(height, MIN_HEIGHT_M, MAX_HEIGHT_M) {
-        return Err(Refusal::Height {
-            min_km: MIN_HEIGHT_KM,
-            max_km: MAX_HEIGHT_KM,
-        });
-    }
-    if off_the_circle(sin_phi, cos_phi) || cos_phi < -CIRCLE_SLACK {
-        return Err(Refusal::Latitude);
-    }
-    if off_the_circle(sin_lambda, cos_lambda) {
-        return Err(Refusal::Longitude);
-    }
-    let (epoch_year, time_delta) = epoch(year, day)?;
-    if error_model_by_epoch_year(set_year).is_none() {
-        return Err(outside_of_validity_range());
-    }
-    let [g, h, g_dot, h_dot] = check_lists(lists)?;
-    if set_year != epoch_year {
-        return Err(Refusal::OtherEpoch {
-            of_day: epoch_year,
-            of_set: set_year,
-        });
-    }
-    let error_model =
-        *error_model_by_epoch_year(epoch_year).ok_or_else(outside_of_validity_range)?;
-    let (x, y, z) = field_at_offset(
-        height, sin_phi, cos_phi, sin_lambda, cos_lambda, g, h, g_dot, h_dot, time_delta,
-    );
-    Ok(GeomagneticField {
-        x,
-        y,
-        z,
-        error_model,
-    })
+    };
+    place.field(set)
 }
 
 /// A place and a day, as Field takes them.
@@ -246,6 +124,16 @@ pub struct Place {
     pub day: i32,
 }
 
+/// What Field's checks give where none refuses.
+pub struct Accepted<'a> {
+    /// g, h, g_dot, h_dot.
+    pub lists: [&'a [f32; N_COEFF]; 4],
+    /// Years from the epoch to the day.
+    pub time_delta: f32,
+    /// The built-in record of the epoch.
+    pub error_model: WmmErrorModel,
+}
+
 impl Place {
     /// Field at this place and day.
     pub fn field(&self, set: &Set) -> Result<GeomagneticField, Refusal> {
@@ -254,17 +142,72 @@ impl Place {
 
     /// The same with the epoch year and the four lists of a set.
     pub fn field_by(&self, set_year: i32, lists: [&[f32]; 4]) -> Result<GeomagneticField, Refusal> {
-        field_by(
+        let accepted = self.accepted(set_year, lists)?;
+        Ok(accepted.field(&self.geocentric()))
+    }
+
+    /// Field's checks. Refusals 1, 2, 3, 4, 5, 6, 7, 8.
+    // inlined, since Field is timed: the checks cost what they would in its own body
+    #[inline]
+    pub fn accepted<'a>(
+        &self,
+        set_year: i32,
+        lists: [&'a [f32]; 4],
+    ) -> Result<Accepted<'a>, Refusal> {
+        if !within(self.height, MIN_HEIGHT_M, MAX_HEIGHT_M) {
+            return Err(Refusal::Height {
+                min_km: MIN_HEIGHT_KM,
+                max_km: MAX_HEIGHT_KM,
+            });
+        }
+        if off_the_circle(self.sin_phi, self.cos_phi) || self.cos_phi < -CIRCLE_SLACK {
+            return Err(Refusal::Latitude);
+        }
+        if off_the_circle(self.sin_lambda, self.cos_lambda) {
+            return Err(Refusal::Longitude);
+        }
+        let (epoch_year, time_delta) = epoch(self.year, self.day)?;
+        if error_model_by_epoch_year(set_year).is_none() {
+            return Err(outside_of_validity_range());
+        }
+        let lists = check_lists(lists)?;
+        if set_year != epoch_year {
+            return Err(Refusal::OtherEpoch {
+                of_day: epoch_year,
+                of_set: set_year,
+            });
+        }
+        let error_model =
+            *error_model_by_epoch_year(epoch_year).ok_or_else(outside_of_validity_range)?;
+        Ok(Accepted {
+            lists,
+            time_delta,
+            error_model,
+        })
+    }
+
+    /// The geocentric step, for a place that is not refused.
+    pub fn geocentric(&self) -> Geocentric {
+        Geocentric::of(
             self.height,
             self.sin_phi,
             self.cos_phi,
             self.sin_lambda,
             self.cos_lambda,
-            self.year,
-            self.day,
-            set_year,
-            lists,
         )
+    }
+}
+
+impl Accepted<'_> {
+    /// The field of the set at the day, there.
+    pub fn field(&self, there: &Geocentric) -> GeomagneticField {
+        let (x, y, z) = there.field_at_offset(self.lists, self.time_delta);
+        GeomagneticField {
+            x,
+            y,
+            z,
+            error_model: self.error_model,
+        }
     }
 }
 

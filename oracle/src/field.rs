@@ -105,28 +105,63 @@ pub fn rotation(
     (x, z)
 }
 
-/// The steps of `GeomagneticField::new` after its checks, with the offset lent: X, Y and Z.
-#[allow(clippy::too_many_arguments)]
-pub fn field_at_offset(
-    height: f32,
+/// A place in the geocentric frame, with the pairs that it was lent.
+#[derive(Copy, Clone, Debug, PartialEq)]
+pub struct Geocentric {
     sin_phi: f32,
     cos_phi: f32,
     sin_lambda: f32,
     cos_lambda: f32,
-    g: &[f32; N_COEFF],
-    h: &[f32; N_COEFF],
-    g_dot: &[f32; N_COEFF],
-    h_dot: &[f32; N_COEFF],
-    time_delta: f32,
-) -> (f32, f32, f32) {
-    let (r, cos_theta, sin_theta) = geodetic_to_geocentric(height, sin_phi, cos_phi);
+    cos_theta: f32,
+    sin_theta: f32,
+    ratio: f32,
+}
 
-    let ratio = WMM_A / r;
-    let (x_prime, y, z_prime) = synthesize_geocentric_xyz(
-        cos_theta, sin_theta, sin_lambda, cos_lambda, ratio, g, h, g_dot, h_dot, time_delta,
-    );
-    let (x, z) = rotation(cos_theta, sin_theta, sin_phi, cos_phi, x_prime, z_prime);
-    (x, y, z)
+impl Geocentric {
+    /// The first step of `GeomagneticField::new` after its checks.
+    pub fn of(height: f32, sin_phi: f32, cos_phi: f32, sin_lambda: f32, cos_lambda: f32) -> Self {
+        let (r, cos_theta, sin_theta) = geodetic_to_geocentric(height, sin_phi, cos_phi);
+        Geocentric {
+            sin_phi,
+            cos_phi,
+            sin_lambda,
+            cos_lambda,
+            cos_theta,
+            sin_theta,
+            ratio: WMM_A / r,
+        }
+    }
+
+    /// Below a limit in size the near-pole sum is taken.
+    pub fn sin_theta(&self) -> f32 {
+        self.sin_theta
+    }
+
+    /// The steps after that one, with the offset lent: X, Y and Z of the lists g, h, g_dot, h_dot.
+    // inlined, since Field is timed
+    #[inline]
+    pub fn field_at_offset(
+        &self,
+        [g, h, g_dot, h_dot]: [&[f32; N_COEFF]; 4],
+        time_delta: f32,
+    ) -> (f32, f32, f32) {
+        let (cos_theta, sin_theta) = (self.cos_theta, self.sin_theta);
+        let (x_prime, y, z_prime) = synthesize_geocentric_xyz(
+            cos_theta,
+            sin_theta,
+            self.sin_lambda,
+            self.cos_lambda,
+            self.ratio,
+            g,
+            h,
+            g_dot,
+            h_dot,
+            time_delta,
+        );
+        let (sin_phi, cos_phi) = (self.sin_phi, self.cos_phi);
+        let (x, z) = rotation(cos_theta, sin_theta, sin_phi, cos_phi, x_prime, z_prime);
+        (x, y, z)
+    }
 }
 
 impl GeomagneticField {

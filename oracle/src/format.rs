@@ -32,6 +32,7 @@ pub enum Case<'a> {
         offset: f32,
     },
     Field(Place),
+    Rates(Place),
     Epoch {
         year: i32,
         day: i32,
@@ -201,6 +202,7 @@ pub fn parse_case(question: &[u8]) -> Option<Case<'_>> {
             offset: words.float()?,
         },
         b"FIELD" => Case::Field(words.place()?),
+        b"RATES" => Case::Rates(words.place()?),
         b"EPOCH" => Case::Epoch {
             year: words.int()?,
             day: words.int()?,
@@ -299,10 +301,8 @@ pub fn put_case(out: &mut Vec<u8>, case: &Case) {
             put_floats(out, &[cos_theta, sin_theta, sin_lambda, cos_lambda]);
             put_floats(out, &[ratio, offset]);
         }
-        Case::Field(place) => {
-            out.extend_from_slice(b"FIELD");
-            put_place(out, &place);
-        }
+        Case::Field(place) => put_place(out, b"FIELD", &place),
+        Case::Rates(place) => put_place(out, b"RATES", &place),
         Case::Epoch { year, day } => {
             out.extend_from_slice(b"EPOCH");
             put_int(out, year);
@@ -340,8 +340,9 @@ pub fn put_case(out: &mut Vec<u8>, case: &Case) {
     }
 }
 
-/// Writes the seven words of a place and a day.
-pub fn put_place(out: &mut Vec<u8>, place: &Place) {
+/// Writes the name of a line, and the seven words of a place and a day.
+pub fn put_place(out: &mut Vec<u8>, name: &[u8], place: &Place) {
+    out.extend_from_slice(name);
     put_floats(out, &[place.height, place.sin_phi, place.cos_phi]);
     put_floats(out, &[place.sin_lambda, place.cos_lambda]);
     put_int(out, place.year);

@@ -62,10 +62,7 @@ impl Listed {
     /// Writes the question, with no mark.
     pub fn put(&self, out: &mut Vec<u8>) {
         match self.asked {
-            Asked::Field(place) => {
-                out.extend_from_slice(b"FLIST");
-                put_place(out, &place);
-            }
+            Asked::Field(place) => put_place(out, b"FLIST", &place),
             Asked::Uncertainty { xyz, epoch_year } => {
                 out.extend_from_slice(b"ULIST");
                 put_floats(out, &xyz);

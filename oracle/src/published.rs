@@ -1,7 +1,7 @@
 //! The published test values through the oracle. A row: model, date, height [km], latitude and
 //! longitude [degrees], D, I [degrees], H, X, Y, Z, F [nT].
 use crate::entries::{field, Set};
-use crate::field::{field_at_offset, GeomagneticField};
+use crate::field::{Geocentric, GeomagneticField};
 use crate::format::put_set;
 use crate::models::{error_model_by_epoch_year, model_by_epoch_year};
 
@@ -11,15 +11,16 @@ const ALLOWED: [f64; 7] = [0.01, 0.01, 0.1, 0.1, 0.1, 0.1, 0.1];
 
 /// One row, as numbers.
 pub struct Row {
-    model: i32,
-    date: f64,
-    height_km: f64,
-    latitude_deg: f64,
-    longitude_deg: f64,
-    listed: [f64; 7],
+    pub model: i32,
+    pub date: f64,
+    pub height_km: f64,
+    pub latitude_deg: f64,
+    pub longitude_deg: f64,
+    /// D, I, H, X, Y, Z, F.
+    pub listed: [f64; 7],
 }
 
-fn parse_row(line: &str) -> Option<Row> {
+pub fn parse_row(line: &str) -> Option<Row> {
     let mut words = line.split_whitespace();
     let model = words.next()?.parse().ok()?;
     let numbers: Vec<f64> = words.map(|word| word.parse().ok()).collect::<Option<_>>()?;
@@ -40,7 +41,7 @@ fn parse_row(line: &str) -> Option<Row> {
 
 /// What the modules are lent for a row: the height in metres, and the sines and cosines of f64
 /// rounded to f32.
-fn lent(row: &Row) -> [f32; 5] {
+pub fn lent(row: &Row) -> [f32; 5] {
     let (sin_phi, cos_phi) = row.latitude_deg.to_radians().sin_cos();
     let (sin_lambda, cos_lambda) = row.longitude_deg.to_radians().sin_cos();
     [
@@ -67,18 +68,9 @@ fn field_of(row: &Row) -> Option<GeomagneticField> {
         .ok();
     }
     let offset = (row.date - f64::from(row.model)) as f32;
-    let (x, y, z) = field_at_offset(
-        height,
-        sin_phi,
-        cos_phi,
-        sin_lambda,
-        cos_lambda,
-        &model.g,
-        &model.h,
-        &model.g_dot,
-        &model.h_dot,
-        offset,
-    );
+    let there = Geocentric::of(height, sin_phi, cos_phi, sin_lambda, cos_lambda);
+    let lists = [&model.g, &model.h, &model.g_dot, &model.h_dot];
+    let (x, y, z) = there.field_at_offset(lists, offset);
     let error_model = *error_model_by_epoch_year(row.model)?;
     Some(GeomagneticField {
         x,

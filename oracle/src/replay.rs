@@ -10,6 +10,7 @@ use crate::format::{
     parse_case, parse_set, put_case, put_float, put_floats, put_hex, put_int, put_refusal, put_set,
     Case, MALFORMED, MARK, NEWLINE,
 };
+use crate::rates::rates;
 use crate::stored::{read_stored, write_stored};
 use crate::synthesis::N_COEFF;
 use std::io::{self, BufRead, Write};
@@ -181,6 +182,7 @@ fn put_result(out: &mut Vec<u8>, case: &Case, set: &Set) -> Result<(), Refusal> 
             put_floats(out, &[x_prime, y, z_prime]);
         }
         Case::Field(place) => put_field(out, &place.field(set)?),
+        Case::Rates(place) => put_floats(out, &rates(&place, set)?),
         Case::Epoch { year, day } => {
             let (epoch_year, offset) = epoch(year, day)?;
             put_int(out, epoch_year);

@@ -1,12 +1,16 @@
 //! Tests: the worked examples of document 01, the refusals and their order, the agency's file, lists
-//! of error records, angles in degrees, due south, stored sets, the line format, and the generated cases.
+//! of error records, angles in degrees, due south, stored sets, yearly rates, the line format, and the
+//! generated cases.
 mod agency;
 mod angles;
 mod degrees;
+mod double;
 mod format;
 mod generated;
 mod listed;
 mod paper;
+mod rates;
+mod rates_lines;
 mod records;
 mod refusals;
 mod south;

@@ -145,22 +145,40 @@ static int rows(const char *path) {
     return other;
 }
 
-/* Orders 2 and above where the sine of the colatitude is 0.000999, every half degree of longitude, at
- * both ends of the epoch. `side` is 1 at the north pole and -1 at the south. */
+/* The largest of orders 2 and above, every half degree of longitude, at both ends of the epoch. */
+static struct three higher_orders(const struct njerumoy_set *set, struct centre at) {
+    struct three most = {0.0, 0.0, 0.0};
+    for (int i = 0; i < 720; i++) {
+        for (int years = 0; years <= 5; years += 5) {
+            const struct three v = sum(set, at, 0.5 * i, years, 2, DEGREES);
+            widen(&most, v.x, v.y, v.z);
+        }
+    }
+    return most;
+}
+
+/* The set whose field is the yearly change of another's: X, Y and Z change evenly. */
+static struct njerumoy_set rates_of(const struct njerumoy_set *set) {
+    static const float none[NJERUMOY_LIST_LENGTH];
+    struct njerumoy_set rates = *set;
+    rates.g = set->g_dot;
+    rates.h = set->h_dot;
+    rates.g_dot = rates.h_dot = none;
+    return rates;
+}
+
+/* Where the sine of the colatitude is 0.000999. `side` is 1 at the north pole and -1 at the south. */
 static void left_out(double height, double side) {
     for (int k = 0; k < 2; k++) {
         const double s = 0.000999, radius = 6356752.0 + height;
         const struct centre at = {side * sqrt(1.0 - s * s), s, radius};
-        struct three most = {0.0, 0.0, 0.0};
-        for (int i = 0; i < 720; i++) {
-            for (int years = 0; years <= 5; years += 5) {
-                const struct three v = sum(SETS[k], at, 0.5 * i, years, 2, DEGREES);
-                widen(&most, v.x, v.y, v.z);
-            }
-        }
-        printf("left out near the %s pole, %d, height %.0f km: X' %.2f  Y %.2f  Z' %.3f nT\n",
+        const struct njerumoy_set rates = rates_of(SETS[k]);
+        const struct three v = higher_orders(SETS[k], at), w = higher_orders(&rates, at);
+        printf("left out near the %s pole, %d, height %.0f km: X' %.2f  Y %.2f  Z' %.3f nT; ",
                side > 0.0 ? "north" : "south", (int)SETS[k]->epoch_year, height / 1000.0,
-               upward(most.x, 2), upward(most.y, 2), upward(most.z, 3));
+               upward(v.x, 2), upward(v.y, 2), upward(v.z, 3));
+        printf("of the rates: %.3f  %.3f  %.4f nT a year\n", upward(w.x, 3), upward(w.y, 3),
+               upward(w.z, 4));
     }
 }
 

@@ -9,6 +9,8 @@ mod field;
 mod limits;
 #[path = "../../oracle/src/models.rs"]
 mod models;
+#[path = "../../oracle/src/refusal.rs"]
+mod refusal;
 #[path = "../../oracle/src/cases/rng.rs"]
 mod rng;
 #[path = "../../oracle/src/sets.rs"]

@@ -4,11 +4,11 @@
 //! each reader.
 //!
 //!   files [COUNT]     COUNT random files (300000)
+use bench::questions::random_count;
 use bench::reading::{Answer, COF, LENGTH, LONGEST};
 use bench::tally::Tally;
 use oracle::cases::Generator;
 use oracle::layout::{published_file, SPOILING};
-use std::env;
 use std::hint::black_box;
 use std::process::ExitCode;
 use std::time::Instant;
@@ -199,13 +199,8 @@ fn long_files(tally: &mut Tally, text: &[u8]) {
 }
 
 fn main() -> ExitCode {
-    let count = match env::args().nth(1).map(|word| word.parse()) {
-        None => RANDOM,
-        Some(Ok(count)) => count,
-        Some(Err(_)) => {
-            eprintln!("files [COUNT]");
-            return ExitCode::from(2);
-        }
+    let Some(count) = random_count("files", RANDOM) else {
+        return ExitCode::from(2);
     };
     let files =
         [2020, 2025].map(|epoch_year| published_file(epoch_year).expect("a published epoch"));

@@ -10,13 +10,13 @@ use bench::listed::{
     our_field, our_field_alone, our_uncertainty, our_uncertainty_alone, rust_field,
     rust_uncertainty, told, List,
 };
+use bench::questions::{faults, good_place, published, random_count};
 use bench::tally::Tally;
 use oracle::cases::records::GROUPS;
 use oracle::cases::{Generator, Kind, TURNS};
-use oracle::entries::{Place, Set};
+use oracle::entries::Set;
 use oracle::listed::{Asked, Listed};
-use oracle::models::{date_to_epoch_year, model_by_epoch_year, WmmErrorModel, WMM_ERROR_MODELS};
-use std::env;
+use oracle::models::{date_to_epoch_year, WmmErrorModel, WMM_ERROR_MODELS};
 use std::process::ExitCode;
 
 /// How many random questions are compared.
@@ -70,63 +70,6 @@ fn compare(tally: &mut Tally, listed: &Listed, set: &Set) -> (u32, bool) {
         format!("{line}\n  ours {}\n  Rust {}", told(&ours), told(&rust))
     });
     (rust.0, same)
-}
-
-fn good_place(year: i32) -> Place {
-    Place {
-        height: 1000.0,
-        sin_phi: 0.6,
-        cos_phi: 0.8,
-        sin_lambda: -0.28,
-        cos_lambda: 0.96,
-        year,
-        day: 100,
-    }
-}
-
-fn published(epoch_year: i32) -> Set {
-    Set::of(model_by_epoch_year(epoch_year).expect("a published epoch"))
-}
-
-/// Questions that are refused by 1 to 8, each by one fault.
-fn faults() -> Vec<(Place, Set)> {
-    type Fault = fn(&mut Place);
-    let of_place: [Fault; 10] = [
-        |place| place.height = f32::NAN,
-        |place| place.height = -1001.0,
-        |place| place.height = 850001.0,
-        |place| place.cos_phi = 0.9,
-        |place| place.cos_phi = -0.8,
-        |place| place.sin_lambda = f32::NEG_INFINITY,
-        |place| place.day = 0,
-        |place| place.day = 367,
-        |place| place.year = 2019,
-        |place| place.year = 2030,
-    ];
-    let mut faults = Vec::new();
-    for spoil in of_place {
-        let mut place = good_place(2027);
-        spoil(&mut place);
-        faults.push((place, published(2025)));
-    }
-    let mut of_set = |set: Set| faults.push((good_place(2027), set));
-    for epoch_year in [2020, 2021, -2025] {
-        let lists = published(2025).lists;
-        of_set(Set { epoch_year, lists });
-    }
-    for list in 0..4 {
-        for length in [0, 89, 91] {
-            let mut set = published(2025);
-            set.lists[list].resize(length, 0.0);
-            of_set(set);
-        }
-        for (index, entry) in [(0, f32::NAN), (89, -65537.0)] {
-            let mut set = published(2025);
-            set.lists[list][index] = entry;
-            of_set(set);
-        }
-    }
-    faults
 }
 
 /// Field with the planned list at a place: two good questions.
@@ -263,13 +206,8 @@ fn compare_alone(tally: &mut Tally, listed: Listed, set: &Set) {
 }
 
 fn main() -> ExitCode {
-    let count = match env::args().nth(1).map(|word| word.parse()) {
-        None => RANDOM,
-        Some(Ok(count)) => count,
-        Some(Err(_)) => {
-            eprintln!("lists [COUNT]");
-            return ExitCode::from(2);
-        }
+    let Some(count) = random_count("lists", RANDOM) else {
+        return ExitCode::from(2);
     };
     let mut tally = Tally::default();
     planned(&mut tally, &mut Generator::new(SEED));

@@ -5,6 +5,7 @@
 //!
 //!   stored [COUNT]     COUNT random byte strings, sets, rooms and fields each (1000000)
 use bench::listed::told;
+use bench::questions::{good_place, published, random_count};
 use bench::reading::{Answer, LENGTH, LONGEST, STORED};
 use bench::stored::{self, our_field, our_write, rust_field, rust_write, BYTES};
 use bench::tally::Tally;
@@ -14,9 +15,7 @@ use oracle::cases::stored::{
 use oracle::cases::{Generator, Rng};
 use oracle::entries::{Place, Set};
 use oracle::format::MAX_STORED;
-use oracle::models::model_by_epoch_year;
 use oracle::stored::STORED_LENGTH;
-use std::env;
 use std::process::ExitCode;
 
 /// How many random cases of each kind are compared.
@@ -26,20 +25,7 @@ const LENGTHS: [usize; 4] = [LENGTH; 4];
 
 /// Two good sets, each with a year of its five: a published one, and one of special entries.
 fn good_sets() -> [(Set, i32); 2] {
-    let of_2025 = model_by_epoch_year(2025).expect("a published epoch");
-    [(Set::of(of_2025), 2027), (odd_set(2020), 2022)]
-}
-
-fn good_place(year: i32) -> Place {
-    Place {
-        height: 1000.0,
-        sin_phi: 0.6,
-        cos_phi: 0.8,
-        sin_lambda: -0.28,
-        cos_lambda: 0.96,
-        year,
-        day: 100,
-    }
+    [(published(2025), 2027), (odd_set(2020), 2022)]
 }
 
 fn read(tally: &mut Tally, name: &str, bytes: &[u8], _: &Place) {
@@ -201,13 +187,8 @@ fn random_fields(tally: &mut Tally, count: usize) {
 }
 
 fn main() -> ExitCode {
-    let count = match env::args().nth(1).map(|word| word.parse()) {
-        None => RANDOM,
-        Some(Ok(count)) => count,
-        Some(Err(_)) => {
-            eprintln!("stored [COUNT]");
-            return ExitCode::from(2);
-        }
+    let Some(count) = random_count("stored", RANDOM) else {
+        return ExitCode::from(2);
     };
     let mut tally = Tally::default();
     planned_bytes(&mut tally);

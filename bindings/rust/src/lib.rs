@@ -4,12 +4,13 @@
 //!
 //! `field_in_degrees` takes a place in degrees. The other calls take an angle by its sine and cosine:
 //! `sine_and_cosine` makes this `Pair` from degrees, or lend your own. `field_stored` takes the set as
-//! stored bytes.
+//! stored bytes. `rates` gives the yearly change of what `field` gives.
 #![no_std]
 
 mod angles;
 mod owned;
 pub mod published;
+mod rates;
 mod records;
 mod refusal;
 mod stored;
@@ -18,6 +19,7 @@ pub mod sys;
 
 pub use angles::{declination, field_in_degrees, sine_and_cosine};
 pub use owned::{OwnedSet, LIST_LENGTH};
+pub use rates::{rates, Rates};
 pub use records::{field_listed, ErrorRecord, Errors};
 use refusal::Carried;
 pub use refusal::{List, Refusal};

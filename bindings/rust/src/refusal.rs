@@ -66,6 +66,8 @@ pub enum Refusal {
     WrongEnd { place: usize },
     /// 20
     NoRoom,
+    /// 21
+    ZeroDivisor,
 }
 
 /// The places that a call lends for what a refusal carries. One that it does not lend stays 0.
@@ -130,11 +132,12 @@ impl Refusal {
             17 => Refusal::WrongTag { place },
             18 => Refusal::WrongLength { place },
             19 => Refusal::WrongEnd { place },
-            _ => Refusal::NoRoom,
+            20 => Refusal::NoRoom,
+            _ => Refusal::ZeroDivisor,
         }
     }
 
-    /// The number, 1 to 20.
+    /// The number, 1 to 21.
     pub fn number(&self) -> u32 {
         match self {
             Refusal::Height { .. } => 1,
@@ -157,6 +160,7 @@ impl Refusal {
             Refusal::WrongLength { .. } => 18,
             Refusal::WrongEnd { .. } => 19,
             Refusal::NoRoom => 20,
+            Refusal::ZeroDivisor => 21,
         }
     }
 }
@@ -215,6 +219,7 @@ impl fmt::Display for Refusal {
             Refusal::NoRoom => f.write_str(
                 "there is no room for the stored set, or its epoch year is not from 0 to 65535",
             ),
+            Refusal::ZeroDivisor => f.write_str("there is no yearly change, since H is zero"),
         }
     }
 }

@@ -96,6 +96,28 @@ extern "C" {
         years: &mut [i32; 2],
     ) -> u32;
 
+    pub fn njerumoy_rates(
+        height: f32,
+        sin_phi: f32,
+        cos_phi: f32,
+        sin_lambda: f32,
+        cos_lambda: f32,
+        year: i32,
+        day_of_year: i32,
+        epoch_year: i32,
+        g: *const f32,
+        g_length: usize,
+        h: *const f32,
+        h_length: usize,
+        g_dot: *const f32,
+        g_dot_length: usize,
+        h_dot: *const f32,
+        h_dot_length: usize,
+        rates: &mut [f32; 7],
+        entry: &mut [usize; 2],
+        years: &mut [i32; 2],
+    ) -> u32;
+
     pub fn njerumoy_sum(
         cos_theta: f32,
         sin_theta: f32,

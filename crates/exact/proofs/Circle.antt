@@ -1,4 +1,4 @@
--- A pair that passes the circle test has members of size at most 3/2: otherwise a square would round to 9/4 or more.
+-- A pair that passes the circle test has members of size at most 1025/1024: otherwise a square would round to 1050625/1048576 or more.
 use mathlib.Core.Path.{_≡_, refl, sym, subst}
 use Prim.Native.Nat.{ℕ, zero, suc, _+_, _*_, _^_, _≤_, _<_}
 use native.Mathlib.Nat.{le-trans, le-of-eq, le-of-lt, add-zero, zero-add, mul-pos, mul-comm, add-comm, mul-le-mul, mul-le-mul-right}
@@ -21,11 +21,11 @@ NonNeg nan = ⊥
 NonNeg (inf s) = s ≡ false
 NonNeg (fin s m e) = s ≡ false
 
--- at least 9/4
+-- at least 1050625/1048576
 abbrev Big : Float → Type 0
 Big nan = ⊥
 Big (inf s) = s ≡ false
-Big (fin s m e) = (s ≡ false) × (9 * down e ≤ m * up e * 4)
+Big (fin s m e) = (s ≡ false) × (1050625 * down e ≤ m * up e * 1048576)
 
 odd-nonneg : (d q k l : ℕ) → NonNeg (odd d false q k l)
 unfolding odd
@@ -45,21 +45,21 @@ round-nonneg num den =
         cut true = odd-nonneg 25 q k 149
         cut false = refl
 
-at-least : (z : Float) → NonNeg z → T (le (fin false 9 (negsuc 1)) z) → Big z
+at-least : (z : Float) → NonNeg z → T (le (fin false 1050625 (negsuc 19)) z) → Big z
 unfolding le lt eq
 at-least nan h t = absurd t
 at-least (inf s) h t = h
-at-least (fin false m e) h t = (h, or-le (9 * 1 * down e) (m * up e * 4) true t)
+at-least (fin false m e) h t = (h, or-le (1050625 * 1 * down e) (m * up e * 1048576) true t)
 at-least (fin true m e) h t = absurd (true≢false h)
 
-big-is : round binary32 false 9 4 ≡ fin false 9 (negsuc 1)
+big-is : round binary32 false 1050625 1048576 ≡ fin false 1050625 (negsuc 19)
 unfolding round
 big-is = refl
 
-round-big : (num den : ℕ) → 0 < den → 9 * den ≤ num * 4 → Big (round binary32 false num den)
+round-big : (num den : ℕ) → 0 < den → 1050625 * den ≤ num * 1048576 → Big (round binary32 false num den)
 round-big num den D h =
     at-least (round binary32 false num den) (round-nonneg num den)
-    (subst (λ (z : Float). T (le z (round binary32 false num den))) big-is (round-mono binary32 9 4 num den (lit< tt) D h))
+    (subst (λ (z : Float). T (le z (round binary32 false num den))) big-is (round-mono binary32 1050625 1048576 num den (lit< tt) D h))
 
 square-nonneg : (x : Float) → T (finite x) → NonNeg (mul binary32 x x)
 unfolding mul
@@ -68,30 +68,30 @@ square-nonneg (inf s) t = absurd t
 square-nonneg (fin false m e) t = round-nonneg (m * up e * (m * up e)) (down e * down e)
 square-nonneg (fin true m e) t = round-nonneg (m * up e * (m * up e)) (down e * down e)
 
-big : (a d : ℕ) → 3 * d < 2 * a → 9 * (d * d) ≤ a * a * 4
+big : (a d : ℕ) → 1025 * d < 1024 * a → 1050625 * (d * d) ≤ a * a * 1048576
 big a d h = le-trans (le-of-eq (r d)) (le-trans (mul-le-mul (le-of-lt h) (le-of-lt h)) (le-of-eq (s a)))
   where
-    r : (d : ℕ) → 9 * (d * d) ≡ 3 * d * (3 * d)
+    r : (d : ℕ) → 1050625 * (d * d) ≡ 1025 * d * (1025 * d)
     r d = omega arith
 
-    s : (a : ℕ) → 2 * a * (2 * a) ≡ a * a * 4
+    s : (a : ℕ) → 1024 * a * (1024 * a) ≡ a * a * 1048576
     s a = omega arith
 
-square-big : (x : Float) → T (finite x) → 3 * own x .over < 2 * (own x .plus + own x .minus) → Big (mul binary32 x x)
+square-big : (x : Float) → T (finite x) → 1025 * own x .over < 1024 * (own x .plus + own x .minus) → Big (mul binary32 x x)
 unfolding mul own
 square-big nan t h = absurd t
 square-big (inf s) t h = absurd t
-square-big (fin false m e) t h = round-big (m * up e * (m * up e)) (down e * down e) (mul-pos (down-pos e) (down-pos e)) (big (m * up e) (down e) (subst (λ (z : ℕ). 3 * down e < 2 * z) (add-zero (m * up e)) h))
-square-big (fin true m e) t h = round-big (m * up e * (m * up e)) (down e * down e) (mul-pos (down-pos e) (down-pos e)) (big (m * up e) (down e) (subst (λ (z : ℕ). 3 * down e < 2 * z) (zero-add (m * up e)) h))
+square-big (fin false m e) t h = round-big (m * up e * (m * up e)) (down e * down e) (mul-pos (down-pos e) (down-pos e)) (big (m * up e) (down e) (subst (λ (z : ℕ). 1025 * down e < 1024 * z) (add-zero (m * up e)) h))
+square-big (fin true m e) t h = round-big (m * up e * (m * up e)) (down e * down e) (mul-pos (down-pos e) (down-pos e)) (big (m * up e) (down e) (subst (λ (z : ℕ). 1025 * down e < 1024 * z) (zero-add (m * up e)) h))
 
-sum-big : (a b c : ℕ) → 0 < c → 9 * c ≤ (a + b) * 4 → Big (sum binary32 false a false b c)
+sum-big : (a b c : ℕ) → 0 < c → 1050625 * c ≤ (a + b) * 1048576 → Big (sum binary32 false a false b c)
 unfolding sum
 sum-big a b c C h = round-big (a + b) c C h
 
 -- with something added
-more : (a d u b : ℕ) → 9 * d ≤ a * 4 → 9 * (d * u) ≤ (a * u + b) * 4
+more : (a d u b : ℕ) → 1050625 * d ≤ a * 1048576 → 1050625 * (d * u) ≤ (a * u + b) * 1048576
 more a d u b h =
-    let p : 9 * d * u ≤ a * 4 * u = mul-le-mul-right u h in
+    let p : 1050625 * d * u ≤ a * 1048576 * u = mul-le-mul-right u h in
     omega arith
 
 add-big-l : (x y : Float) → Big x → NonNeg y → Big (add binary32 x y)
@@ -137,27 +137,27 @@ too-big (inf false) h t = t
 too-big (inf true) h t = true≢false h
 too-big (fin false m e) h t = go (m * up e) (down e) (down-pos e) (h .1) (or-le (m * up e * 1048576) (1048577 * 1 * down e) true t)
   where
-    go : (a d : ℕ) → 0 < d → 9 * d ≤ a * 4 → a * 1048576 ≤ 1048577 * 1 * d → ⊥
+    go : (a d : ℕ) → 0 < d → 1050625 * d ≤ a * 1048576 → a * 1048576 ≤ 1048577 * 1 * d → ⊥
     go a d D p q = omega arith
 too-big (fin true m e) h t = true≢false (h .0)
 
--- at most 3/2 in size
+-- at most 1025/1024 in size
 abbrev pub Slight : Float → Type 0
-Slight x = 2 * (own x .plus + own x .minus) ≤ 3 * own x .over
+Slight x = 1024 * (own x .plus + own x .minus) ≤ 1025 * own x .over
 
 slight-two : (x : Float) → Slight x → AtMost 2 x
 slight-two x h = omega arith
 
 pub on-circle : (s c : Float) → T (finite s) → T (finite c) → T (le (add binary32 (mul binary32 s s) (mul binary32 c c)) circle-top) → Slight s × Slight c
 on-circle s c fs fc t = (
-  one (own s .plus + own s .minus) (own s .over) (λ (h : 3 * own s .over < 2 * (own s .plus + own s .minus)). too-big _ (add-big-l _ _ (square-big s fs h) (square-nonneg c fc)) t),
-  one (own c .plus + own c .minus) (own c .over) (λ (h : 3 * own c .over < 2 * (own c .plus + own c .minus)). too-big _ (add-big-r _ _ (square-nonneg s fs) (square-big c fc h)) t),
+  one (own s .plus + own s .minus) (own s .over) (λ (h : 1025 * own s .over < 1024 * (own s .plus + own s .minus)). too-big _ (add-big-l _ _ (square-big s fs h) (square-nonneg c fc)) t),
+  one (own c .plus + own c .minus) (own c .over) (λ (h : 1025 * own c .over < 1024 * (own c .plus + own c .minus)). too-big _ (add-big-r _ _ (square-nonneg s fs) (square-big c fc h)) t),
 )
   where
-    one : (a d : ℕ) → (3 * d < 2 * a → ⊥) → 2 * a ≤ 3 * d
-    one a d n = go (leb (2 * a) (3 * d)) (leb→le (2 * a) (3 * d)) (nleb→lt (2 * a) (3 * d))
+    one : (a d : ℕ) → (1025 * d < 1024 * a → ⊥) → 1024 * a ≤ 1025 * d
+    one a d n = go (leb (1024 * a) (1025 * d)) (leb→le (1024 * a) (1025 * d)) (nleb→lt (1024 * a) (1025 * d))
       where
-        go : (b : Bool) → (T b → 2 * a ≤ 3 * d) → (T (not b) → 3 * d < 2 * a) → 2 * a ≤ 3 * d
+        go : (b : Bool) → (T b → 1024 * a ≤ 1025 * d) → (T (not b) → 1025 * d < 1024 * a) → 1024 * a ≤ 1025 * d
         go true p q = p tt
         go false p q = absurd (n (q tt))
 

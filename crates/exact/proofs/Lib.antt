@@ -11,3 +11,4 @@ pub mod Circle
 pub mod Range
 pub mod Wholes
 pub mod Once
+pub mod Units

@@ -1,7 +1,7 @@
 -- What nearness comes to: rank 127 and a slack of 2 ^ 128 lie within the distance of demand 3; and a float near a number of size B is itself of size at most 2 * (B + 1).
 use mathlib.Core.Path.{_≡_, refl, sym, ap}
 use Prim.Native.Nat.{ℕ, suc, _+_, _*_, _^_, _≤_, _<_}
-use native.Mathlib.Nat.{le-refl, le-trans, le-of-eq, add-comm, add-zero, zero-add, mul-pos, mul-right-comm, mul-le-mul-left, mul-le-mul-right, le-of-mul-le-mul-right, add-le-add}
+use native.Mathlib.Nat.{le-add-left, le-add-right, le-refl, le-trans, le-of-eq, add-comm, add-zero, zero-add, mul-pos, mul-right-comm, mul-le-mul-left, mul-le-mul-right, le-of-mul-le-mul-right, add-le-add}
 use native.Mathlib.Omega.{arith}
 use mathlib.Core.Bool.{Bool, true, false}
 use lib.Dec.{T}
@@ -110,3 +110,26 @@ near-size {k} {B} {E} {f} {x} m fine = (finite-is f (m .p) (m .q) (m .d) (m .is)
     go nan p q d D i h = absurd i
     go (inf s) p q d D i h = absurd i
     go (fin s n e) p q d D i h = own-size s (2 * suc B) n p q d e D i h
+
+-- ---- and a float within the promised distance of a number whose majorant is at most T / 2 ^ 20 is hardly larger than that
+size-cut : (f x m o d T : ℕ) → 0 < o → f * o * FINE ≤ x * d * FINE + distance m o * d → x ≤ m → m * FINE ≤ T * o → f * (FINE * FINE) ≤ (T * (FINE + 8) + FINE) * d
+size-cut f x m o d T O h l k = le-of-mul-le-mul-right (mid (mul-le-mul-right FINE h) (mul-le-mul-right (d * FINE * FINE) l) (mul-le-mul-right (d * (FINE + 8)) k)) O
+  where
+    mid : f * o * FINE * FINE ≤ (x * d * FINE + distance m o * d) * FINE → x * (d * FINE * FINE) ≤ m * (d * FINE * FINE) → m * FINE * (d * (FINE + 8)) ≤ T * o * (d * (FINE + 8))
+        → f * (FINE * FINE) * o ≤ (T * (FINE + 8) + FINE) * d * o
+    mid a b c = omega arith
+
+pub within-size : (f : Float) (x : Exact) (T : ℕ) → Within f x (size x) → (x .plus + x .minus) * FINE ≤ T * x .over → (own f .plus + own f .minus) * (FINE * FINE) ≤ (T * (FINE + 8) + FINE) * own f .over
+unfolding own
+within-size nan x T w k = absurd (w .is-finite)
+within-size (inf s) x T w k = absurd (w .is-finite)
+within-size (fin false m e) x T w k =
+    rw (add-zero (m * up e)) (size-cut (m * up e) (x .plus) (x .plus + x .minus) (x .over) (down e) T (w .some-over) (one (m * up e) (x .minus) (down e) (x .over) (x .plus) (w .above)) (le-add-right (x .plus) (x .minus)) k)
+  where
+    one : (f q d o p : ℕ) → (f * o + q * d) * FINE ≤ (0 * o + p * d) * FINE + distance (p + q) o * d → f * o * FINE ≤ p * d * FINE + distance (p + q) o * d
+    one f q d o p h = omega arith
+within-size (fin true m e) x T w k =
+    rw (zero-add (m * up e)) (size-cut (m * up e) (x .minus) (x .plus + x .minus) (x .over) (down e) T (w .some-over) (one (m * up e) (x .plus) (down e) (x .over) (x .minus) (w .below)) (le-add-left (x .minus) (x .plus)) k)
+  where
+    one : (f p d o q : ℕ) → (f * o + p * d) * FINE ≤ (0 * o + q * d) * FINE + distance (p + q) o * d → f * o * FINE ≤ q * d * FINE + distance (p + q) o * d
+    one f p d o q h = omega arith

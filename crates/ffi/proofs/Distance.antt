@@ -1,6 +1,6 @@
--- What a returned 0 means: there is an answer. So Field's promised distance holds of what `njerumoy_field`, `njerumoy_field_in_degrees`, `njerumoy_field_stored` and `njerumoy_field_listed` have written. Assumes nothing.
+-- What a returned 0 means: there is an answer. So Field's promised distance holds of what `njerumoy_field`, `njerumoy_field_in_degrees`, `njerumoy_field_stored` and `njerumoy_field_listed` have written, and that of the rates of what `njerumoy_rates` has. Assumes nothing.
 use mathlib.Core.Path.{_≡_, refl, sym, ap, _∙_}
-use mathlib.Core.Bool.{Bool, true, false, cond}
+use mathlib.Core.Bool.{Bool, true, false, not, cond}
 use mathlib.Core.List.{List, [], _∷_}
 use Prim.Native.Nat.{ℕ}
 use native.Mathlib.Omega.{arith}
@@ -19,7 +19,7 @@ use denote.Triple.Entry.{Args}
 use denote.Triple.Clauses.{atExit}
 use borrow.Fn.Kinds.{Dens, endedOf}
 use Rattle.refusals.specs.declared.Refusal.{Refusal}
-use Rattle.refusals.specs.declared.Refusal.the-variants.{DayOfYear, OtherEpoch, Unusable, NoErrorRecord, Angle}
+use Rattle.refusals.specs.declared.Refusal.the-variants.{DayOfYear, OtherEpoch, Unusable, NoErrorRecord, Angle, ZeroDivisor}
 use Rattle.refusals.specs.Paper.{Paper, answered, refused, paper, unless, after, told}
 use Rattle.refusals.specs.declared.Verdict.{Verdict}
 use Rattle.refusals.specs.declared.Verdict.the-variants as Verdict
@@ -40,7 +40,14 @@ use Rattle.strengths.specs.declared.GeomagneticField.{GeomagneticField}
 use Rattle.field.specs.Field.{Asked, asked, shownSays, datedSays, componentsSays, fieldWith, fieldSays, listedField, FieldClose}
 use Rattle.field.proofs.Answers.{field-close, answer-close, of-place}
 use Rattle.degrees.specs.Degrees.{Place, place, paired, degreesSays}
-use Rattle.ffi.specs.Told.{numberOf, result, fieldFloats, errorFloats, storedField}
+use Rattle.rates.specs.declared.YearlyRates.{YearlyRates}
+use Rattle.rates.specs.declared.RatesAnswer.the-variants as RatesAnswer
+use Rattle.rates.specs.Rates.{AllFinite, RatesClose, ratesSays, ratesWith, zeroDivisor}
+use Rattle.rates.proofs.Answers as rate-answers
+use Rattle.rates.proofs.Laws.{all-finite}
+use Rattle.ffi.specs.Told.{numberOf, result, fieldFloats, errorFloats, rateFloats, storedField}
+use Rattle.ffi.proofs.yearly.njerumoy_rates.Kinds as rates-kinds
+use Rattle.ffi.proofs.yearly.njerumoy_rates.Reads as rates-reads
 use Rattle.ffi.proofs.fields.njerumoy_field.Kinds as kinds
 use Rattle.ffi.proofs.fields.njerumoy_field.Reads as reads
 use Rattle.ffi.proofs.fields.njerumoy_field_in_degrees.Kinds as degrees-kinds
@@ -157,6 +164,22 @@ njerumoy-field-distance κs height sin-phi cos-phi sin-lambda cos-lambda year da
     let q = field-answers a year day (c .0 .0) in
     let v = q .0 in
     (v, c .0 .1 ∙ ap (result fieldFloats _) (q .1), c .0 .2 ∙ ap (result errorFloats _) (q .1), field-close a year day (Answer.Field v) (sym (q .1)) v refl)
+
+-- the same of the yearly rates, of the exact rates; and each of the seven is finite
+rates-answer : (a : Asked) (year day : ℤ) → Answers (ratesSays a year day)
+unfolding ratesSays ratesWith
+rates-answer a year day = behind-answer (fieldSays a year day) _ (field-answers a year day) (λ v. behind-test (not (zeroDivisor v)) ZeroDivisor _ (answers _))
+
+pub njerumoy-rates-distance : (κs : Lfts 7) (height sin-phi cos-phi sin-lambda cos-lambda : Float) (year day epoch-year : ℤ) (g h g-dot h-dot rates : RefT (List Float)) (entry : RefT (List ℕ)) (years : RefT (List ℤ))
+    (rates′ : List Float) (entry′ : List ℕ) (years′ : List ℤ)
+    → (let a : Dens κs rates-kinds.ps = (height, (sin-phi, (cos-phi, (sin-lambda, (cos-lambda, (year, (day, (epoch-year, (g, (h, (g-dot, (h-dot, (rates, (entry, (years, tt))))))))))))))) in
+    rates-reads.Post κs a 0 (atExit (endedOf 7 rates-kinds.ps rates-kinds.r) κs a (tt, (tt, (tt, (tt, (tt, (tt, (tt, (tt, (tt, (tt, (tt, (tt, (rates′, (entry′, (years′, tt)))))))))))))))))
+    → (v : YearlyRates) × (rates′ ≡ rateFloats v) × RatesClose (asked height sin-phi cos-phi sin-lambda cos-lambda epoch-year (now g) (now h) (now g-dot) (now h-dot)) v × AllFinite v
+njerumoy-rates-distance κs height sin-phi cos-phi sin-lambda cos-lambda year day epoch-year g h g-dot h-dot rates entry years rates′ entry′ years′ c =
+    let a : Asked = asked height sin-phi cos-phi sin-lambda cos-lambda epoch-year (now g) (now h) (now g-dot) (now h-dot) in
+    let q = rates-answer a year day (c .0 .0) in
+    let v = q .0 in
+    (v, c .0 .1 ∙ ap (result rateFloats _) (q .1), rate-answers.answer-close a year day (RatesAnswer.Rates v) (sym (q .1)) v refl, all-finite a year day v (q .1))
 
 -- the same of the entry in degrees, of the exact field of the pairs that are made of the two angles
 pub njerumoy-field-in-degrees-distance : (κs : Lfts 8) (height latitude longitude : Float) (year day epoch-year : ℤ) (g h g-dot h-dot xyz errors : RefT (List Float)) (entry : RefT (List ℕ)) (years : RefT (List ℤ))

@@ -66,11 +66,15 @@ all-but ls = but (map case ls) 0 (the-type .parts)
 other-number : (cs : List ℕ) (k l : Refusal) → T (not (hasKey cs (case l))) → OneOf cs (case k) → eqb (line k .number) (line l .number) ≡ false
 other-number cs k l n c = ne-eqb _ _ (λ e. miss cs (case l) n (subst (OneOf cs) (same-case k l e) c))
 
+-- one of two, by a test that fails
+not-taken : {A : Type 0} (b : Bool) (x y : A) → b ≡ false → y ≡ cond b x y
+not-taken b x y e = rw e
+
 pub entry-kept : (held : List ℕ) (k : Refusal) → OneOf (all-but (Coefficient 0 0 ∷ [])) (case k) → held ≡ entryPlace held (paper {A = ℕ} k)
-entry-kept held k c = rw (other-number (all-but (Coefficient 0 0 ∷ [])) k (Coefficient 0 0) tt c)
+entry-kept held k c = not-taken (eqb (line k .number) 7) _ held (other-number (all-but (Coefficient 0 0 ∷ [])) k (Coefficient 0 0) tt c)
 
 pub years-kept : (held : List ℤ) (k : Refusal) → OneOf (all-but (OtherEpoch (pos 0) (pos 0) ∷ [])) (case k) → held ≡ yearsPlace held (paper {A = ℕ} k)
-years-kept held k c = rw (other-number (all-but (OtherEpoch (pos 0) (pos 0) ∷ [])) k (OtherEpoch (pos 0) (pos 0)) tt c)
+years-kept held k c = not-taken (eqb (line k .number) 8) _ held (other-number (all-but (OtherEpoch (pos 0) (pos 0) ∷ [])) k (OtherEpoch (pos 0) (pos 0)) tt c)
 
 -- the refusals that tell where a reader stopped
 abbrev pub tells-where : List Refusal

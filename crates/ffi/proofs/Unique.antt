@@ -8,6 +8,7 @@ use Rattle.ffi.proofs.angles.njerumoy_declination as declination-fn
 use Rattle.ffi.proofs.fields.njerumoy_field as field-fn
 use Rattle.ffi.proofs.fields.njerumoy_field_in_degrees as field-in-degrees-fn
 use Rattle.ffi.proofs.fields.njerumoy_allowance as allowance-fn
+use Rattle.ffi.proofs.yearly.njerumoy_rates as rates-fn
 use Rattle.ffi.proofs.files.njerumoy_read_cof as read-cof-fn
 use Rattle.ffi.proofs.sets.njerumoy_read_stored as read-stored-fn
 use Rattle.ffi.proofs.sets.njerumoy_write_stored as write-stored-fn
@@ -62,6 +63,13 @@ njerumoy-allowance κs a x y u v p q =
     let entry = same (p .0 .2) (q .0 .2) in
     let years = same (p .0 .3) (q .0 .3) in
     (same (p .0 .0) (q .0 .0), λ i. (tt, (tt, (tt, (tt, (tt, (tt, (tt, (tt, (tt, (tt, (tt, (tt, (allowances i, (entry i, (years i, tt))))))))))))))))
+
+pub njerumoy-rates : OneResult rates-fn.Kinds.ps rates-fn.Kinds.r rates-fn.Reads.Post
+njerumoy-rates κs a x y u v p q =
+    let rates = same (p .0 .1) (q .0 .1) in
+    let entry = same (p .0 .2) (q .0 .2) in
+    let years = same (p .0 .3) (q .0 .3) in
+    (same (p .0 .0) (q .0 .0), λ i. (tt, (tt, (tt, (tt, (tt, (tt, (tt, (tt, (tt, (tt, (tt, (tt, (rates i, (entry i, (years i, tt))))))))))))))))
 
 pub njerumoy-sum : OneResult sum-fn.Kinds.ps sum-fn.Kinds.r sum-fn.Reads.Post
 njerumoy-sum κs a x y u v p q =

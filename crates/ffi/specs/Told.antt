@@ -16,6 +16,7 @@ use Rattle.strengths.specs.Strengths.{Warning, blackout, caution, no-zone}
 use Rattle.strengths.specs.Grid.{Variation, degrees, absent}
 use Rattle.stored.specs.Stored.{storedSays}
 use Rattle.field.specs.Field.{asked, fieldSays}
+use Rattle.rates.specs.declared.YearlyRates.{YearlyRates}
 use Rattle.allowance.specs.declared.Allowances.{Allowances}
 
 -- ---- of any answer
@@ -69,6 +70,10 @@ fieldFloats v = v .x ∷ v .y ∷ v .z ∷ []
 -- the allowances of X, Y and Z, in this order
 abbrev pub allowanceFloats : Allowances → List Float
 allowanceFloats v = v .x ∷ v .y ∷ v .z ∷ []
+
+-- the rates, in the record's order
+abbrev pub rateFloats : YearlyRates → List Float
+rateFloats v = v .x ∷ v .y ∷ v .z ∷ v .declination ∷ v .inclination ∷ v .h ∷ v .f ∷ []
 
 -- the error figures, in the record's order
 abbrev pub errorFloats : GeomagneticField → List Float

@@ -11,3 +11,4 @@ mod refuse;
 mod sets;
 mod sums;
 mod tell;
+mod yearly;

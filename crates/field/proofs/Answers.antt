@@ -76,6 +76,11 @@ module _ (a b : ℤ) (v : Xyz) (fa : SFits w32 a) (fb : SFits w32 b) where
   unfolding shownSays
   own-epoch h = let i : sameYear a b ≡ true = rw (bits-same a b fa fb h) (year-same b) in rw i
 
+-- a year is its own
+pub own-year : (a : ℤ) (v : Xyz) → answered v ≡ shownSays a a v
+unfolding shownSays
+own-year a v = rw (year-same a)
+
 -- a known year is the same after its way through an i32
 pub year-back : (y : ℤ) → knownEpoch y ≡ true → toZ w32 (ofZ w32 y) ≡ y
 unfolding knownEpoch

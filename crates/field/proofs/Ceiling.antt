@@ -52,10 +52,10 @@ use Rattle.field.proofs.TurnNear.{turnedA}
 use Rattle.field.proofs.Laws.{field-x-image, field-x-near, field-y-image, field-y-near, field-z-image, field-z-near, sum-accepted}
 
 -- ---- sizes in units of 2 ^ -20
-unfoldable upward : Size → ℕ
+unfoldable pub upward : Size → ℕ
 upward s = s .num * 1048576 / s .over + 1
 
-unfoldable ceilings : Arithmetic ℕ
+unfoldable pub ceilings : Arithmetic ℕ
 unfolding upward
 ceilings =
     record {
@@ -68,8 +68,8 @@ ceilings =
     }
 
 -- s is at most b units
-record Under (s : Size) (b : ℕ) : Type 0 where
-  units : 0 < s .over → s .num * 1048576 ≤ b * s .over
+pub record Under (s : Size) (b : ℕ) : Type 0 where
+  pub units : 0 < s .over → s .num * 1048576 ≤ b * s .over
 
 left-pos : (a b : ℕ) → 0 < a * b → 0 < a
 left-pos zero b h = absurd (not-suc-le-zero (subst (λ (z : ℕ). 0 < z) (zero-mul b) h))
@@ -110,7 +110,7 @@ under-times : {a b : Size} {x y : ℕ} → Under a x → Under b y → Under (ti
 unfolding timesS
 under-times {a} {b} {x} {y} h k = record { units = λ o. product-under (a .num) (b .num) (a .over) (b .over) x y (h .units (left-pos (a .over) (b .over) o)) (k .units (right-pos (a .over) (b .over) o)) }
 
-under-related : Related sizes ceilings Under
+pub under-related : Related sizes ceilings Under
 unfolding sizes ceilings
 under-related =
     record {
@@ -122,11 +122,10 @@ under-related =
       num = λ f. under-itself (size (own f));
     }
 
--- ---- the largest input: pairs of 3/2, the ratio 65/64, five years, every entry at its cap
-top : Input ℕ
-top =
-    let s = ofBits binary32 0x3fc00000 in
-    let c = coefficient ceilings (ceilings .num main-cap) (ceilings .num rate-cap) (ceilings .num (ofBits binary32 0x40a00000)) in
+-- ---- the largest input: pairs of 1025/1024, the ratio 65/64, and c units in the place of every coefficient at the date
+unfoldable pub top : ℕ → Input ℕ
+top c =
+    let s = ofBits binary32 0x3f802000 in
     record {
       cos-theta = s;
       sin-theta = s;
@@ -139,13 +138,13 @@ top =
       K = kOf;
     }
 
--- the units of its numbers
-tops : (ceilings .num (ofBits binary32 0x3fc00000) ≡ 1572865) × (ceilings .num (ofBits binary32 0x3f820000) ≡ 1064961) × (ceilings .num (ofBits binary32 0x40a00000) ≡ 5242881)
+-- the units of its numbers, and of those that a coefficient at the date is made of
+tops : (ceilings .num (ofBits binary32 0x3f802000) ≡ 1049601) × (ceilings .num (ofBits binary32 0x3f820000) ≡ 1064961) × (ceilings .num (ofBits binary32 0x40a00000) ≡ 5242881)
     × (ceilings .num main-cap ≡ 68719476737) × (ceilings .num rate-cap ≡ 4294967297)
 unfolding ceilings upward own ofBits
 tops = (refl, refl, refl, refl, refl)
 
-slight-under : (f : Float) → Slight f → Under (sizes .num f) (ceilings .num (ofBits binary32 0x3fc00000))
+slight-under : (f : Float) → Slight f → Under (sizes .num f) (ceilings .num (ofBits binary32 0x3f802000))
 unfolding sizes
 slight-under f h = rw (tops .0) (record { units = λ o. omega arith })
 
@@ -168,36 +167,45 @@ ratio-under x t =
 main-under : (f : Float) → Leaf 65536 f → Under (sizes .num f) (ceilings .num main-cap)
 main-under f h = rw (tops .3) (leaf-under 65536 68719476737 f h (lit≤ tt))
 
-rate-under : (f : Float) → Leaf 4096 f → Under (sizes .num f) (ceilings .num rate-cap)
+pub rate-under : (f : Float) → Leaf 4096 f → Under (sizes .num f) (ceilings .num rate-cap)
 rate-under f h = rw (tops .4) (leaf-under 4096 4294967297 f h (lit≤ tt))
 
 years-under : (f : Float) → Leaf 5 f → Under (sizes .num f) (ceilings .num (ofBits binary32 0x40a00000))
 years-under f h = rw (tops .2) (leaf-under 5 5242881 f h (lit≤ tt))
 
-alike-top : (a : Lent) → SumAccepted a → Alike sizes ceilings Under (inputs sizes a) top
+-- what the sums read is no larger
+alike-top : (a : Lent) → SumAccepted a → (c : ℕ) → ((n m : ℕ) → Under (inputs sizes a .g n m) c) → ((n m : ℕ) → Under (inputs sizes a .h n m) c) → Alike sizes ceilings Under (inputs sizes a) (top c)
 unfolding inputs placed top ofBits
-alike-top a w =
+alike-top a w c g h =
     let k = under-related in
-    let o = Sum.leaves a w in
-    let c = circle-slight (a .sin-theta) (a .cos-theta) (w .colatitude) in
+    let o = circle-slight (a .sin-theta) (a .cos-theta) (w .colatitude) in
     let l = circle-slight (a .sin-lambda) (a .cos-lambda) (w .longitude) in
     record {
-      cos-theta = slight-under (a .cos-theta) (c .1);
-      sin-theta = slight-under (a .sin-theta) (c .0);
+      cos-theta = slight-under (a .cos-theta) (o .1);
+      sin-theta = slight-under (a .sin-theta) (o .0);
       sin-lambda = slight-under (a .sin-lambda) (l .0);
       cos-lambda = slight-under (a .cos-lambda) (l .1);
       ratio = ratio-under (a .ratio) (w .ratio);
       S = λ n m. k .num _;
       K = λ n m. k .num _;
-      g = λ n m. k .plus (main-under _ (o .g n m)) (k .times (years-under _ (o .offset)) (rate-under _ (o .g-dot n m)));
-      h = λ n m. k .plus (main-under _ (o .h n m)) (k .times (years-under _ (o .offset)) (rate-under _ (o .h-dot n m)));
+      g = g;
+      h = h;
     }
 
--- ---- what the sums come to there, computed
-within-top : (leb (x-sum ceilings top N-MAX) (2 ^ 70) ≡ true) × (leb (y-sum ceilings top N-MAX) (15 * 2 ^ 65) ≡ true) × (leb (z-sum ceilings top N-MAX) (2 ^ 70) ≡ true)
-    × (leb (pole-x ceilings top POLE-ORDERS N-MAX) (2 ^ 70) ≡ true) × (leb (pole-y ceilings top N-MAX) (2 ^ 78) ≡ true) × (leb (pole-z ceilings top POLE-ORDERS N-MAX) (2 ^ 70) ≡ true)
-unfolding ceilings upward invE own ofBits ofInt round lit schmidtAt schmidtBits kOf angle pole-angle step legendre total gc-hs gs-hc psn dpsn power x-row y-row z-row x-sum y-sum z-sum quotient pole-gc pole-gs pole-x-row pole-z-row pole-x pole-y pole-z top
-within-top = (refl, refl, refl, refl, refl, refl)
+-- what the sums come to there, by a computed test: X' and Z' at most X, and Y', which is divided by the sine, at most Y
+abbrev pub Tops : ℕ → ℕ → ℕ → Type 0
+Tops c X Y =
+    (leb (x-sum ceilings (top c) N-MAX) X ≡ true) × (leb (y-sum ceilings (top c) N-MAX) Y ≡ true) × (leb (z-sum ceilings (top c) N-MAX) X ≡ true)
+    × (leb (pole-x ceilings (top c) POLE-ORDERS N-MAX) X ≡ true) × (leb (pole-y ceilings (top c) N-MAX) Y ≡ true) × (leb (pole-z ceilings (top c) POLE-ORDERS N-MAX) X ≡ true)
+
+-- so X and Z of Field come to at most T, and Y to at most E
+pub record Reach (c T E : ℕ) : Type 0 where
+  pub X : ℕ
+  pub Y : ℕ
+  pub sums : Tops c X Y
+  pub turned : X * 2101256 / 1048576 + 1 + (X * 2101256 / 1048576 + 1) ≤ T
+  pub divided : Y * 2 ^ 30 / 1048576 + 1 ≤ E
+  pub pole : Y ≤ E
 
 at-most : (m n : ℕ) → leb m n ≡ true → m ≤ n
 at-most m n e = leb→le m n (subst T (sym e) tt)
@@ -207,45 +215,48 @@ choose true p q = p tt
 choose false p q = q tt
 
 -- ---- the majorants of Sum, in units
-module _ (a : Lent) (w : SumAccepted a) where
-  x-under : Under (sum-x sizes a) (2 ^ 70)
-  unfolding inputs placed
-  x-under = choose (small-sine (a .sin-theta)) (λ t. under-more (at-most _ _ (within-top .3)) (pole-x-related sizes ceilings Under under-related (inputs sizes a) top (alike-top a w) POLE-ORDERS N-MAX)) (λ t. under-more (at-most _ _ (within-top .0)) (x-sum-related sizes ceilings Under under-related (inputs sizes a) top (alike-top a w) N-MAX))
+module _ (a : Lent) (w : SumAccepted a) {c T' E : ℕ} (r : Reach c T' E) (g : (n m : ℕ) → Under (inputs sizes a .g n m) c) (h : (n m : ℕ) → Under (inputs sizes a .h n m) c) where
+  largest : Alike sizes ceilings Under (inputs sizes a) (top c)
+  largest = alike-top a w c g h
 
-  z-under : Under (sum-z sizes a) (2 ^ 70)
+  x-under : Under (sum-x sizes a) (r .X)
   unfolding inputs placed
-  z-under = choose (small-sine (a .sin-theta)) (λ t. under-more (at-most _ _ (within-top .5)) (pole-z-related sizes ceilings Under under-related (inputs sizes a) top (alike-top a w) POLE-ORDERS N-MAX)) (λ t. under-more (at-most _ _ (within-top .2)) (z-sum-related sizes ceilings Under under-related (inputs sizes a) top (alike-top a w) N-MAX))
+  x-under = choose (small-sine (a .sin-theta)) (λ t. under-more (at-most _ _ (r .sums .3)) (pole-x-related sizes ceilings Under under-related (inputs sizes a) (top c) largest POLE-ORDERS N-MAX)) (λ t. under-more (at-most _ _ (r .sums .0)) (x-sum-related sizes ceilings Under under-related (inputs sizes a) (top c) largest N-MAX))
+
+  z-under : Under (sum-z sizes a) (r .X)
+  unfolding inputs placed
+  z-under = choose (small-sine (a .sin-theta)) (λ t. under-more (at-most _ _ (r .sums .5)) (pole-z-related sizes ceilings Under under-related (inputs sizes a) (top c) largest POLE-ORDERS N-MAX)) (λ t. under-more (at-most _ _ (r .sums .2)) (z-sum-related sizes ceilings Under under-related (inputs sizes a) (top c) largest N-MAX))
 
   -- 1 / sine is at most 1024
   inverse-under : T (not (small-sine (a .sin-theta))) → Under (size (invE (own (a .sin-theta)))) (2 ^ 30)
   inverse-under t = record { units = λ o. omega (arith, Sum.sine-divides a w t .size) }
 
-  y-under : Under (sum-y sizes a) (15 * 2 ^ 75 + 1)
+  y-under : Under (sum-y sizes a) E
   unfolding sizes inputs placed
   y-under =
-      choose (small-sine (a .sin-theta)) (λ t. under-more (le-trans (at-most _ _ (within-top .4)) (lit≤ tt)) (pole-y-related sizes ceilings Under under-related (inputs sizes a) top (alike-top a w) N-MAX))
-      (λ t. under-times (under-more (at-most _ _ (within-top .1)) (y-sum-related sizes ceilings Under under-related (inputs sizes a) top (alike-top a w) N-MAX)) (inverse-under t))
+      choose (small-sine (a .sin-theta)) (λ t. under-more (le-trans (at-most _ _ (r .sums .4)) (r .pole)) (pole-y-related sizes ceilings Under under-related (inputs sizes a) (top c) largest N-MAX))
+      (λ t. under-more (r .divided) (under-times (under-more (at-most _ _ (r .sums .1)) (y-sum-related sizes ceilings Under under-related (inputs sizes a) (top c) largest N-MAX)) (inverse-under t)))
 
--- ---- the majorants of Field: the turn multiplies by at most 9/2, twice
-module _ (c s cp sp : Float) (C : Slight c) (S : Slight s) (CP : Slight cp) (SP : Slight sp) {x z : Size} (X : Under x (2 ^ 70)) (Z : Under z (2 ^ 70)) where
-  three : (f : Float) → Slight f → Under (sizes .num f) 1572865
-  three f h = rw (tops .0) at (slight-under f h)
+-- ---- the majorants of Field: the turn multiplies by little more than 2, twice
+module _ (c s cp sp : Float) (C : Slight c) (S : Slight s) (CP : Slight cp) (SP : Slight sp) {x z : Size} {B T' : ℕ} (X : Under x B) (Z : Under z B) (most : B * 2101256 / 1048576 + 1 + (B * 2101256 / 1048576 + 1) ≤ T') where
+  little : (f : Float) → Slight f → Under (sizes .num f) 1049601
+  little f h = rw (tops .0) at (slight-under f h)
 
-  sin-under : Under (sin-turn sizes c s cp sp) (2 ^ 23)
+  sin-under : Under (sin-turn sizes c s cp sp) 2101256
   unfolding sin-turn sizes
-  sin-under = under-more (lit≤ tt) (under-plus (under-times (three c C) (three cp CP)) (under-times (three s S) (three sp SP)))
+  sin-under = under-more (lit≤ tt) (under-plus (under-times (little c C) (little cp CP)) (under-times (little s S) (little sp SP)))
 
-  cos-under : Under (cos-turn sizes c s cp sp) (2 ^ 23)
+  cos-under : Under (cos-turn sizes c s cp sp) 2101256
   unfolding cos-turn sizes
-  cos-under = under-more (lit≤ tt) (under-plus (under-times (three s S) (three cp CP)) (under-times (three c C) (three sp SP)))
+  cos-under = under-more (lit≤ tt) (under-plus (under-times (little s S) (little cp CP)) (under-times (little c C) (little sp SP)))
 
-  turn-x-under : Under (turn-x sizes c s cp sp x z) (2 ^ 75)
+  turn-x-under : Under (turn-x sizes c s cp sp x z) T'
   unfolding turn-x sizes
-  turn-x-under = under-more (lit≤ tt) (under-plus (under-times X cos-under) (under-times Z sin-under))
+  turn-x-under = under-more most (under-plus (under-times X cos-under) (under-times Z sin-under))
 
-  turn-z-under : Under (turn-z sizes c s cp sp x z) (2 ^ 75)
+  turn-z-under : Under (turn-z sizes c s cp sp x z) T'
   unfolding turn-z sizes
-  turn-z-under = under-more (lit≤ tt) (under-plus (under-times X sin-under) (under-times Z cos-under))
+  turn-z-under = under-more most (under-plus (under-times X sin-under) (under-times Z cos-under))
 
 -- ---- from a majorant in units to the test of a component
 -- the same nearness with a sharper size
@@ -266,6 +277,7 @@ small {f = f} {x = x} b B' m e u l F t =
     let s = near-size (resized B' m (cut-units (x .plus + x .minus) b B' (x .over) l (v .units (m .close .over)))) F in
     capped-by f (s .0) (le-trans (s .1) (mul-le-mul-right (own f .over) t))
 
+-- ---- X, Y and Z of Field, for coefficients at the date of at most c units
 module _ (a : Asked) (e : EpochOffset) (w : FieldAccepted a e) (l : Listed (a .g) (a .h) (a .g-dot) (a .h-dot)) where
   abbrev given : SumAccepted (handed a e)
   given = sum-accepted a e w l
@@ -276,29 +288,50 @@ module _ (a : Asked) (e : EpochOffset) (w : FieldAccepted a e) (l : Listed (a .g
   lat : Slight (a .sin-phi) × Slight (a .cos-phi)
   lat = circle-slight (a .sin-phi) (a .cos-phi) (latitude-circle (a .sin-phi) (a .cos-phi) (w .latitude))
 
-  field-x-under : Under (field-x sizes a e) (2 ^ 75)
-  unfolding field-x
-  field-x-under = turn-x-under (handed a e .cos-theta) (handed a e .sin-theta) (a .cos-phi) (a .sin-phi) (pair .1) (pair .0) (lat .1) (lat .0) (x-under (handed a e) given) (z-under (handed a e) given)
+  module _ {c T' E : ℕ} (r : Reach c T' E) (g : (n m : ℕ) → Under (inputs sizes (handed a e) .g n m) c) (h : (n m : ℕ) → Under (inputs sizes (handed a e) .h n m) c) where
+    pub field-x-under : Under (field-x sizes a e) T'
+    unfolding field-x
+    field-x-under = turn-x-under (handed a e .cos-theta) (handed a e .sin-theta) (a .cos-phi) (a .sin-phi) (pair .1) (pair .0) (lat .1) (lat .0) (x-under (handed a e) given r g h) (z-under (handed a e) given r g h) (r .turned)
 
-  field-z-under : Under (field-z sizes a e) (2 ^ 75)
-  unfolding field-z
-  field-z-under = turn-z-under (handed a e .cos-theta) (handed a e .sin-theta) (a .cos-phi) (a .sin-phi) (pair .1) (pair .0) (lat .1) (lat .0) (x-under (handed a e) given) (z-under (handed a e) given)
+    pub field-z-under : Under (field-z sizes a e) T'
+    unfolding field-z
+    field-z-under = turn-z-under (handed a e .cos-theta) (handed a e .sin-theta) (a .cos-phi) (a .sin-phi) (pair .1) (pair .0) (lat .1) (lat .0) (x-under (handed a e) given r g h) (z-under (handed a e) given r g h) (r .turned)
 
-  field-y-under : Under (field-y sizes a e) (15 * 2 ^ 75 + 1)
-  unfolding field-y
-  field-y-under = y-under (handed a e) given
+    pub field-y-under : Under (field-y sizes a e) E
+    unfolding field-y
+    field-y-under = y-under (handed a e) given r g h
+
+-- ---- every entry at its cap, and five years
+full : ℕ
+full = coefficient ceilings (ceilings .num main-cap) (ceilings .num rate-cap) (ceilings .num (ofBits binary32 0x40a00000))
+
+full-reach : Reach full (2 ^ 75) (15 * 2 ^ 75 + 1)
+unfolding ceilings upward invE own ofBits ofInt round lit schmidtAt schmidtBits kOf angle pole-angle step legendre total gc-hs gs-hc psn dpsn power x-row y-row z-row x-sum y-sum z-sum quotient pole-gc pole-gs pole-x-row pole-z-row pole-x pole-y pole-z top full
+full-reach = record { X = 2 ^ 70; Y = 15 * 2 ^ 65; sums = (refl, refl, refl, refl, refl, refl); turned = lit≤ tt; divided = lit≤ tt; pole = lit≤ tt }
+
+module _ (a : Asked) (e : EpochOffset) (w : FieldAccepted a e) (l : Listed (a .g) (a .h) (a .g-dot) (a .h-dot)) where
+  abbrev leaves : Sum.Leaves (handed a e)
+  leaves = Sum.leaves (handed a e) (sum-accepted a e w l)
+
+  g-full : (n m : ℕ) → Under (inputs sizes (handed a e) .g n m) full
+  unfolding inputs placed full
+  g-full n m = let k = under-related in k .plus (main-under _ (leaves .g n m)) (k .times (years-under _ (leaves .offset)) (rate-under _ (leaves .g-dot n m)))
+
+  h-full : (n m : ℕ) → Under (inputs sizes (handed a e) .h n m) full
+  unfolding inputs placed full
+  h-full n m = let k = under-related in k .plus (main-under _ (leaves .h n m)) (k .times (years-under _ (leaves .offset)) (rate-under _ (leaves .h-dot n m)))
 
   -- the majorant of Y is at most 2 ^ 60
   pub field-y-size : 0 < field-y sizes a e .over → field-y sizes a e .num ≤ 2 ^ 60 * field-y sizes a e .over
-  field-y-size o = cut-units (field-y sizes a e .num) (15 * 2 ^ 75 + 1) (2 ^ 60) (field-y sizes a e .over) (lit≤ tt) (field-y-under .units o)
+  field-y-size o = cut-units (field-y sizes a e .num) (15 * 2 ^ 75 + 1) (2 ^ 60) (field-y sizes a e .over) (lit≤ tt) (field-y-under a e w l full-reach g-full h-full .units o)
 
   -- X, Y and Z can be used
   pub record-usable : (m : WmmErrorModel) → usable (recordOf (strengthsOf a e) m) ≡ true
   unfolding usable accA legS angS powS
   record-usable m =
-      let x = small (2 ^ 75) (2 ^ 55) (field-x-near a e w l rounded-keeps) (field-x-image size-hom a e) field-x-under (lit≤ tt) (fine-below (fine-ok turnedA tt) (lit≤ tt) (lit≤ tt) (lit≤ tt)) (at-most _ _ (below-largest .0)) in
-      let y = small (15 * 2 ^ 75 + 1) (15 * 2 ^ 55 + 1) (field-y-near a e w l rounded-keeps) (field-y-image size-hom a e) field-y-under (lit≤ tt) (fine-below (fine-ok eastA tt) (lit≤ tt) (lit≤ tt) (lit≤ tt)) (at-most _ _ (below-largest .1)) in
-      let z = small (2 ^ 75) (2 ^ 55) (field-z-near a e w l rounded-keeps) (field-z-image size-hom a e) field-z-under (lit≤ tt) (fine-below (fine-ok turnedA tt) (lit≤ tt) (lit≤ tt) (lit≤ tt)) (at-most _ _ (below-largest .0)) in
+      let x = small (2 ^ 75) (2 ^ 55) (field-x-near a e w l rounded-keeps) (field-x-image size-hom a e) (field-x-under a e w l full-reach g-full h-full) (lit≤ tt) (fine-below (fine-ok turnedA tt) (lit≤ tt) (lit≤ tt) (lit≤ tt)) (at-most _ _ (below-largest .0)) in
+      let y = small (15 * 2 ^ 75 + 1) (15 * 2 ^ 55 + 1) (field-y-near a e w l rounded-keeps) (field-y-image size-hom a e) (field-y-under a e w l full-reach g-full h-full) (lit≤ tt) (fine-below (fine-ok eastA tt) (lit≤ tt) (lit≤ tt) (lit≤ tt)) (at-most _ _ (below-largest .1)) in
+      let z = small (2 ^ 75) (2 ^ 55) (field-z-near a e w l rounded-keeps) (field-z-image size-hom a e) (field-z-under a e w l full-reach g-full h-full) (lit≤ tt) (fine-below (fine-ok turnedA tt) (lit≤ tt) (lit≤ tt) (lit≤ tt)) (at-most _ _ (below-largest .0)) in
       all-three (field-x rounded a e) (field-y rounded a e) (field-z rounded a e) x y z
 
 -- ---- so no strength of a record that Field gave ends in 12, whatever its figures

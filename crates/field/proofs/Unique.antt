@@ -6,6 +6,7 @@ use Rattle.refusals.proofs.Clauses.{three-say-first}
 use Rattle.field.proofs.field as field-fn
 use Rattle.field.proofs.field_with as field-with-fn
 use Rattle.field.proofs.listed.field_listed as field-listed-fn
+use Rattle.field.proofs.axes.turn as turn-fn
 
 pub field : OneResult field-fn.Kinds.ps field-fn.Kinds.r field-fn.Reads.Post
 field κs a x y u v p q = (field-answer-one _ x y (p .0) (q .0), refl)
@@ -15,3 +16,6 @@ field-with κs a x y u v p q = (field-answer-one _ x y (p .0) (q .0), refl)
 
 pub field-listed : OneAnswer field-listed-fn.ended (λ M 𝓤. field-listed-fn.clauses 𝓤)
 field-listed M 𝓤 H A mem run κs a g x y u v = three-say-first 𝓤 (λ p q. (field-answer-one _ x y p q, refl))
+
+pub turn : OneResult turn-fn.Kinds.ps turn-fn.Kinds.r turn-fn.Reads.Post
+turn κs a x y u v p q = (cc, refl)

@@ -13,16 +13,16 @@ use synthesis::Colatitude;
 use synthesis::Longitude;
 use synthesis::SumAnswer;
 use synthesis::Xyz;
-use turn::turn;
 ghost use mathlib.Core.Path.{_≡_};
 ghost use Rattle.models.specs.Epochs.{epochOffset};
 ghost use Rattle.models.specs.Errors.{errorSaid};
 ghost use Rattle.field.specs.Field.{asked, FieldAccepted, componentsSaid, shownSays, datedSays, componentsSays, recordSays, fieldWith, fieldSays, said, FieldClose};
 
+mod axes;
 mod listed;
 mod place;
-mod turn;
 
+pub use axes::turn;
 pub use listed::field_listed;
 
 // The pair of the geodetic latitude.

@@ -13,7 +13,7 @@ use lib.ListN.{length, getD, drop}
 use lib.Seq.{drop-cons}
 use lib.Ieee.{Float, nan, fin, neg, ofBits}
 use lib.Ieee.Bits.{is-true}
-use lib.Ieee.Fits.{and-l, and-r}
+use lib.Ieee.Fits.{and-i, and-l, and-r}
 use Rattle.exact.specs.Tests.{all-between, all-capped, between, capped}
 use Rattle.float32.proofs.Checks.{within-capped}
 use Rattle.refusals.specs.Paper.{check}
@@ -110,25 +110,30 @@ flags-decide g h gd hd m n k l a b c d =
     (no-flag (all-between (neg main-cap) main-cap g) (all-between (neg main-cap) main-cap h) (all-between (neg rate-cap) rate-cap gd) (all-between (neg rate-cap) rate-cap hd))
 
 -- nothing over a cap: the search finds nothing
-entries-pass : (n : ℕ) (d : ℤ) (k i : ℕ) (l : List Float) → T (all-between (neg (fin false n d)) (fin false n d) l) → entriesVerdict (fin false n d) k i l ≡ Verdict.Accepted
-unfolding entriesVerdict all-between
-entries-pass n d k i [] t = refl
-entries-pass n d k i (x ∷ l) t =
-    let cap = fin false n d in
-    go (capped cap x) (entriesVerdict cap k (suc i) l) (within-capped n d x (and-l (between (neg cap) cap x) (all-between (neg cap) cap l) t))
-    (entries-pass n d k (suc i) l (and-r (between (neg cap) cap x) (all-between (neg cap) cap l) t))
+entries-pass : (cap : Float) (k i : ℕ) (l : List Float) → T (all-capped cap l) → entriesVerdict cap k i l ≡ Verdict.Accepted
+unfolding entriesVerdict all-capped
+entries-pass cap k i [] t = refl
+entries-pass cap k i (x ∷ l) t = go (capped cap x) (entriesVerdict cap k (suc i) l) (and-l (capped cap x) (all-capped cap l) t) (entries-pass cap k (suc i) l (and-r (capped cap x) (all-capped cap l) t))
   where
     go : (b : Bool) (q : Verdict) → T b → q ≡ Verdict.Accepted → check b (Coefficient k i) q ≡ Verdict.Accepted
     go true q h e = e
     go false q h e = absurd h
 
+-- as the code asks it
+between-capped : (n : ℕ) (d : ℤ) (l : List Float) → T (all-between (neg (fin false n d)) (fin false n d) l) → T (all-capped (fin false n d) l)
+unfolding all-between all-capped
+between-capped n d [] t = tt
+between-capped n d (x ∷ l) t =
+    let cap = fin false n d in
+    and-i (capped cap x) (all-capped cap l) (within-capped n d x (and-l (between (neg cap) cap x) (all-between (neg cap) cap l) t)) (between-capped n d l (and-r (between (neg cap) cap x) (all-between (neg cap) cap l) t))
+
 main-pass : (k : ℕ) (l : List Float) → T (all-between (neg main-cap) main-cap l) → entriesVerdict main-cap k 0 l ≡ Verdict.Accepted
 unfolding ofBits
-main-pass k l t = entries-pass 1 (pos 16) k 0 l t
+main-pass k l t = entries-pass (fin false 1 (pos 16)) k 0 l (between-capped 1 (pos 16) l t)
 
 rate-pass : (k : ℕ) (l : List Float) → T (all-between (neg rate-cap) rate-cap l) → entriesVerdict rate-cap k 0 l ≡ Verdict.Accepted
 unfolding ofBits
-rate-pass k l t = entries-pass 1 (pos 12) k 0 l t
+rate-pass k l t = entries-pass (fin false 1 (pos 12)) k 0 l (between-capped 1 (pos 12) l t)
 
 -- every entry within its cap: the search finds nothing
 pub caps-pass : (g h gd hd : List Float) → withinOf g h gd hd ≡ true → Verdict.Accepted ≡ capsVerdict g h gd hd
@@ -225,3 +230,10 @@ listed g h gd hd e =
       gd-capped = entries-capped rate-cap 2 0 gd (q3 .0);
       hd-capped = entries-capped rate-cap 3 0 hd (q3 .1);
     }
+
+-- and of lists of which that is known nothing is refused
+pub listed-pass : {g h gd hd : List Float} → Listed g h gd hd → listsVerdict g h gd hd ≡ Verdict.Accepted
+unfolding listsVerdict
+listed-pass {g} {h} {gd} {hd} l =
+    rw (l .g-long, l .h-long, l .gd-long, l .hd-long)
+    (rw (entries-pass main-cap 0 0 g (l .g-capped), entries-pass main-cap 1 0 h (l .h-capped), entries-pass rate-cap 2 0 gd (l .gd-capped), entries-pass rate-cap 3 0 hd (l .hd-capped)) refl)

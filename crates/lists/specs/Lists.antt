@@ -33,6 +33,10 @@ abbrev pub capsVerdict : List Float → List Float → List Float → List Float
 capsVerdict g h g-dot h-dot =
     both (entriesVerdict main-cap 0 0 g) (both (entriesVerdict main-cap 1 0 h) (both (entriesVerdict rate-cap 2 0 g-dot) (entriesVerdict rate-cap 3 0 h-dot)))
 
+-- refusal 6 alone
+unfoldable pub lengthsVerdict : List Float → List Float → List Float → List Float → Verdict
+lengthsVerdict g h g-dot h-dot = check (long g h g-dot h-dot) Length Verdict.Accepted
+
 -- refusal 6, then 7
 unfoldable pub listsVerdict : List Float → List Float → List Float → List Float → Verdict
 listsVerdict g h g-dot h-dot = check (long g h g-dot h-dot) Length (capsVerdict g h g-dot h-dot)

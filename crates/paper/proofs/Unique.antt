@@ -9,18 +9,19 @@ pub use Rattle.roots.proofs.Unique.{sqrt, sqrt-by-guess, square-root}
 pub use Rattle.tables.proofs.Unique.{schmidt-table, legendre-k, legendre-k-over}
 pub use Rattle.models.proofs.Unique.{known-epoch, epoch, error-model-by-epoch-year, error-model-listed}
 pub use Rattle.geocentric.proofs.Unique.{geodetic-to-geocentric, radius-ratio}
-pub use Rattle.synthesis.proofs.Unique.{sum}
+pub use Rattle.synthesis.proofs.Unique.{sum, sum-uncapped}
 pub use Rattle.lists.proofs.Unique.{check-lists, check-caps, lists-long}
 pub use Rattle.text.proofs.Unique.{is-blank, first-line, first-word, read-decimal, read-number, read-whole}
 pub use Rattle.agency.proofs.Unique.{read}
 pub use Rattle.stored.proofs.Unique.{stored-read, stored-write}
 pub use Rattle.strengths.proofs.Unique.{h, f, declination, field-declination, inclination}
 pub use Rattle.strengths.proofs.Unique.{declination-warning, declination-uncertainty, uncertainty-with, declination-uncertainty-listed, grid-variation}
-pub use Rattle.field.proofs.Unique.{field, field-with, field-listed}
+pub use Rattle.field.proofs.Unique.{field, field-with, field-listed, turn}
 pub use Rattle.degrees.proofs.Unique.{field-in-degrees}
+pub use Rattle.rates.proofs.Unique.{rates}
 pub use Rattle.allowance.proofs.Unique.{allowance}
 pub use Rattle.ffi.proofs.Unique.{njerumoy-field, njerumoy-allowance, njerumoy-sum, njerumoy-epoch, njerumoy-horizontal, njerumoy-total}
 pub use Rattle.ffi.proofs.Unique.{njerumoy-zone, njerumoy-declination-uncertainty, njerumoy-grid-variation, njerumoy-square-root, njerumoy-read-cof}
 pub use Rattle.ffi.proofs.Unique.{njerumoy-field-listed, njerumoy-declination-uncertainty-listed}
 pub use Rattle.ffi.proofs.Unique.{njerumoy-sine-and-cosine, njerumoy-declination, njerumoy-field-declination, njerumoy-inclination, njerumoy-field-in-degrees}
-pub use Rattle.ffi.proofs.Unique.{njerumoy-read-stored, njerumoy-write-stored, njerumoy-field-stored}
+pub use Rattle.ffi.proofs.Unique.{njerumoy-read-stored, njerumoy-write-stored, njerumoy-field-stored, njerumoy-rates}

@@ -52,6 +52,7 @@ cases v =
     Refusal.WrongLength (natAbs (whole v 0)) ∷
     Refusal.WrongEnd (natAbs (whole v 0)) ∷
     Refusal.NoRoom ∷
+    Refusal.ZeroDivisor ∷
     []
 
 -- the first refusal of the list that has the number n
@@ -81,6 +82,7 @@ read-back (Refusal.WrongTag i) = refl
 read-back (Refusal.WrongLength i) = refl
 read-back (Refusal.WrongEnd i) = refl
 read-back Refusal.NoRoom = refl
+read-back Refusal.ZeroDivisor = refl
 
 line-of : {A : Type 0} → Paper A → Line
 line-of (answered a) = carries 0 [] []

@@ -40,6 +40,7 @@ line (Refusal.WrongTag i) = carries 17 [] (pos i ∷ [])
 line (Refusal.WrongLength i) = carries 18 [] (pos i ∷ [])
 line (Refusal.WrongEnd i) = carries 19 [] (pos i ∷ [])
 line Refusal.NoRoom = carries 20 [] []
+line Refusal.ZeroDivisor = carries 21 [] []
 
 -- what a call says: its answer, or a refusal's number with the floats and the whole numbers that it carries
 pub data Paper (A : Type 0) : Type 0 where

@@ -50,6 +50,8 @@ pub enum Refusal {
     WrongEnd { place: usize },
     // 20: for the bytes of a set, or for its epoch year in two of them.
     NoRoom,
+    // 21: H or F is zero, by which a yearly rate would be divided.
+    ZeroDivisor,
 }
 
 // A refusal's number.
@@ -77,6 +79,7 @@ pub fn number(k: Refusal) -> u32
         Refusal::WrongLength { .. } => 18,
         Refusal::WrongEnd { .. } => 19,
         Refusal::NoRoom => 20,
+        Refusal::ZeroDivisor => 21,
     }
 }
 

@@ -13,6 +13,7 @@ use crate::replies::OK;
 use crate::replies::Reply;
 use crate::sets;
 use crate::texts;
+use crate::yearly;
 use models::EpochAnswer;
 use refusals::Day;
 use roots::RootAnswer;
@@ -99,6 +100,7 @@ fn reply(word: u64, line: &[u8], set: &[f32]) -> Reply {
         forms::DIR => angles::directions(line),
         forms::FDEG => angles::place(line, set),
         forms::SWRITE => bytes::written(line, set),
+        forms::RATES => yearly::place(line, set),
         forms::ROW => published::on_day(line, set),
         forms::MID => published::at_offset(line, set),
         _ => replies::MALFORMED,

@@ -41,6 +41,8 @@ pub const SREAD: u64 = 0x53_52_45_41_44;
 
 pub const SWRITE: u64 = 0x53_57_52_49_54_45;
 
+pub const RATES: u64 = 0x52_41_54_45_53;
+
 // What follows the first word, which ends at `at`: floats, then years and days, then the floats of a
 // published row or a list of error records.
 pub struct Form {
@@ -85,6 +87,7 @@ pub fn form_of(word: u64) -> Form {
         FDEG => made(4, 3, 2, 0),
         SREAD => made(5, 0, 0, 0),
         SWRITE => made(6, 0, 1, 0),
+        RATES => made(5, 5, 2, 0),
         _ => made(NOWHERE, 0, 0, 0),
     }
 }

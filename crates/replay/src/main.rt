@@ -13,6 +13,7 @@ mod replies;
 mod sets;
 mod texts;
 mod write;
+mod yearly;
 
 fn main() {
     let mut input = io::large_buffer();

@@ -82,7 +82,7 @@ pub component-finite : (x : Float) → T (capped max-component x) → T (finite 
 component-finite x t = leaf-finite x (component x t)
 
 module _ (v : GeomagneticField) (u : usable v ≡ true) where
-  components : Leaf (2 ^ 60) (v .x) × Leaf (2 ^ 60) (v .y) × Leaf (2 ^ 60) (v .z)
+  pub components : Leaf (2 ^ 60) (v .x) × Leaf (2 ^ 60) (v .y) × Leaf (2 ^ 60) (v .z)
   unfolding usable
   components =
       let c : Float → Bool = capped max-component in

@@ -1,22 +1,24 @@
 -- The two paths, the ways to an answer, and what an answer says of what is lent.
-use mathlib.Core.Path.{_≡_, sym, ap, subst, _∙_}
-use mathlib.Core.Bool.{true, false}
+use mathlib.Core.Path.{_≡_, refl, sym, ap, subst, _∙_}
+use mathlib.Core.Bool.{Bool, true, false, cond}
+use lib.ListN.{length}
 use lib.Dec.{T}
 use lib.Ieee.{Float, binary32, ofBits, lt, div}
 use lib.Ieee.Bits.{is-true}
-use Rattle.refusals.specs.Paper.{answered, paper, told}
-use Rattle.refusals.proofs.Laws.{paper-one, no-answer, answered-one, told-answered}
+use Rattle.refusals.specs.Paper.{Paper, answered, paper, told}
+use Rattle.refusals.proofs.Laws.{check-accepted, paper-one, no-answer, answered-one, told-answered}
+use Rattle.refusals.specs.declared.Refusal.the-variants.{Length}
 use Rattle.refusals.specs.declared.Refusal.{Refusal}
 use Rattle.refusals.specs.declared.Verdict.{Verdict}
 use Rattle.refusals.specs.declared.Verdict.the-variants as Verdict
-use Rattle.lists.specs.Lists.{listsVerdict}
-use Rattle.lists.proofs.Checked.{listed}
+use Rattle.lists.specs.Lists.{lengthsVerdict, listsVerdict, long}
+use Rattle.lists.proofs.Checked.{each-long, listed}
 use Rattle.synthesis.proofs.NumberChecks.{numbered}
-use Rattle.tables.specs.Degree.{N-MAX}
+use Rattle.tables.specs.Degree.{N-COEFF, N-MAX}
 use Rattle.synthesis.specs.declared.Xyz.{Xyz}
 use Rattle.synthesis.specs.declared.SumAnswer.{SumAnswer}
 use Rattle.synthesis.specs.declared.SumAnswer.the-variants as Answer
-use Rattle.synthesis.specs.Sum.{Lent, SumAccepted, SumClose, inputs, numbersVerdict, offset-ok, ratio-ok, said, sumSays, valueOf}
+use Rattle.synthesis.specs.Sum.{Lent, SumAccepted, SumClose, inputs, numbersVerdict, offset-ok, ratio-ok, said, sumSays, summedSays, uncappedSays, valueOf}
 use Rattle.sums.specs.Paths.{placed, small-sine}
 use Rattle.synthesis.proofs.Demand.{close}
 use Rattle.synthesis.specs.Code.{general, nearPole}
@@ -40,19 +42,40 @@ of-numbers a = numbersVerdict (a .cos-theta) (a .sin-theta) (a .sin-lambda) (a .
 abbrev of-lists : Lent → Verdict
 of-lists a = listsVerdict (a .g) (a .h) (a .g-dot) (a .h-dot)
 
-module _ (a : Lent) where
-  pub refused-numbers : (k : Refusal) → of-numbers a ≡ Verdict.Refused k → paper k ≡ sumSays a
-  unfolding sumSays
-  refused-numbers k e = rw e
+-- with the caps looked at, or without
+abbrev of-lists-by : Bool → Lent → Verdict
+of-lists-by look a = cond look (of-lists a) (lengthsVerdict (a .g) (a .h) (a .g-dot) (a .h-dot))
+
+abbrev saysBy : Bool → Lent → Paper Xyz
+saysBy look a = cond look (sumSays a) (uncappedSays a)
+
+says-by : (look : Bool) (a : Lent) → saysBy look a ≡ summedSays (of-lists-by look a) a
+unfolding sumSays uncappedSays
+says-by true a = refl
+says-by false a = refl
+
+module _ (look : Bool) (a : Lent) where
+  pub refused-numbers : (k : Refusal) → of-numbers a ≡ Verdict.Refused k → paper k ≡ saysBy look a
+  refused-numbers k e = rw (says-by look a, e)
 
   module _ (n : of-numbers a ≡ Verdict.Accepted) where
-    pub refused-lists : (k : Refusal) → of-lists a ≡ Verdict.Refused k → paper k ≡ sumSays a
-    unfolding sumSays
-    refused-lists k e = rw (n, e)
+    pub refused-lists : (k : Refusal) → of-lists-by look a ≡ Verdict.Refused k → paper k ≡ saysBy look a
+    refused-lists k e = rw (says-by look a, n, e)
 
-    pub summed : of-lists a ≡ Verdict.Accepted → (x : Xyz) → x ≡ valueOf a → answered x ≡ sumSays a
-    unfolding sumSays
-    summed e x h = rw (n, e, h)
+    pub summed : of-lists-by look a ≡ Verdict.Accepted → (x : Xyz) → x ≡ valueOf a → answered x ≡ saysBy look a
+    summed e x h = rw (says-by look a, n, e, h)
+
+-- lists that neither refuses are long enough
+pub long-by : (look : Bool) (a : Lent) → of-lists-by look a ≡ Verdict.Accepted → (length (a .g) ≡ N-COEFF) × (length (a .h) ≡ N-COEFF) × (length (a .g-dot) ≡ N-COEFF) × (length (a .h-dot) ≡ N-COEFF)
+unfolding listsVerdict lengthsVerdict
+long-by true a e = each-long (a .g) (a .h) (a .g-dot) (a .h-dot) (check-accepted (long (a .g) (a .h) (a .g-dot) (a .h-dot)) Length _ e .0)
+long-by false a e = each-long (a .g) (a .h) (a .g-dot) (a .h-dot) (check-accepted (long (a .g) (a .h) (a .g-dot) (a .h-dot)) Length _ e .0)
+
+module _ (a : Lent) where
+  -- where the lists pass, it makes no difference whether they are looked at
+  pub uncapped-same : of-lists a ≡ Verdict.Accepted → uncappedSays a ≡ sumSays a
+  unfolding sumSays uncappedSays listsVerdict lengthsVerdict
+  uncapped-same e = rw (check-accepted (long (a .g) (a .h) (a .g-dot) (a .h-dot)) Length _ e .0, check-accepted (long (a .g) (a .h) (a .g-dot) (a .h-dot)) Length _ e .1) refl
 
   -- numbers that pass: Sum says what its lists say
   pub numbers-pass : T (circle (a .sin-theta) (a .cos-theta)) → T (circle (a .sin-lambda) (a .cos-lambda)) → T (ratio-ok (a .ratio)) → T (offset-ok (a .offset)) → sumSays a ≡ told (of-lists a) (answered (valueOf a))
@@ -91,8 +114,8 @@ answer-close a r e v h =
     subst (λ (x : Xyz). SumClose a x) (u .1) (close a (u .0))
 
 -- any two answers that the contract allows are equal
-pub sum-answer-one : (a : Lent) (r s : SumAnswer) → said r ≡ sumSays a → said s ≡ sumSays a → r ≡ s
-sum-answer-one a r s e f = go r s (e ∙ sym f)
+pub sum-answer-one : (p : Paper Xyz) (r s : SumAnswer) → said r ≡ p → said s ≡ p → r ≡ s
+sum-answer-one p r s e f = go r s (e ∙ sym f)
   where
     go : (r s : SumAnswer) → said r ≡ said s → r ≡ s
     go (Answer.Sum v) (Answer.Sum w) h = ap Answer.Sum (answered-one v w h)

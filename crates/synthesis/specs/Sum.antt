@@ -10,7 +10,7 @@ use Rattle.refusals.specs.Paper.{Paper, answered, paper, told, check}
 use Rattle.refusals.specs.declared.Refusal.the-variants.{Longitude, Colatitude, Ratio, Offset}
 use Rattle.refusals.specs.declared.Verdict.{Verdict}
 use Rattle.refusals.specs.declared.Verdict.the-variants as Verdict
-use Rattle.lists.specs.Lists.{listsVerdict, main-cap, rate-cap}
+use Rattle.lists.specs.Lists.{lengthsVerdict, listsVerdict, main-cap, rate-cap}
 use Rattle.tables.specs.Degree.{N-MAX}
 use Rattle.sums.specs.Arithmetic.{Arithmetic, rounded, unrounded, sizes}
 use Rattle.sums.specs.Recurrence.{Input}
@@ -72,11 +72,19 @@ numbersVerdict cos-theta sin-theta sin-lambda cos-lambda ratio offset =
 unfoldable pub valueOf : Lent → Xyz
 valueOf a = record { x = sum-x rounded a; y = sum-y rounded a; z = sum-z rounded a }
 
+-- 9, 3, 10 or 11, then what the lists are refused by, then the answer
+abbrev pub summedSays : Verdict → Lent → Paper Xyz
+summedSays lists a =
+    told (numbersVerdict (a .cos-theta) (a .sin-theta) (a .sin-lambda) (a .cos-lambda) (a .ratio) (a .offset))
+    (told lists (answered (valueOf a)))
+
 -- Sum, by document 01's order: 9, 3, 10, 11, 6, 7, then the answer
 unfoldable pub sumSays : Lent → Paper Xyz
-sumSays a =
-    told (numbersVerdict (a .cos-theta) (a .sin-theta) (a .sin-lambda) (a .cos-lambda) (a .ratio) (a .offset))
-    (told (listsVerdict (a .g) (a .h) (a .g-dot) (a .h-dot)) (answered (valueOf a)))
+sumSays a = summedSays (listsVerdict (a .g) (a .h) (a .g-dot) (a .h-dot)) a
+
+-- the same without 7, whatever the entries are
+unfoldable pub uncappedSays : Lent → Paper Xyz
+uncappedSays a = summedSays (lengthsVerdict (a .g) (a .h) (a .g-dot) (a .h-dot)) a
 
 -- the paper's number and values of each case of the answer
 abbrev pub said : SumAnswer → Paper Xyz

@@ -29,7 +29,9 @@ ghost use lib.ListN.{length};
 ghost use lib.Ieee.{Float};
 ghost use Rattle.tables.specs.Degree.{N-MAX, M-LEN, N-COEFF, N-LEGENDRE, place};
 ghost use Rattle.sums.specs.Arithmetic.{rounded};
-ghost use Rattle.synthesis.specs.Sum.{SumAccepted, inputs, lent};
+ghost use lib.Dec.{T};
+ghost use Rattle.exact.specs.Tests.{circle};
+ghost use Rattle.synthesis.specs.Sum.{inputs, lent};
 ghost use Rattle.sums.specs.Recurrence.{Input, lit};
 ghost use Rattle.synthesis.specs.Code.{Above, Filled, Fresh, Given, Sized, Started, Weighed, addDegree, cellXyz, divisorAt, first, general, laneTotal, pairAt, putTerm, squareAt, termAt, totals};
 
@@ -297,7 +299,7 @@ pub fn synthesize_xyz_prime(
     time_delta: f32,
 ) -> Xyz
     requires { ⌜ (length (now g) ≡ N-COEFF) × (length (now h) ≡ N-COEFF) × (length (now «g_dot») ≡ N-COEFF) × (length (now «h_dot») ≡ N-COEFF) ⌝ }
-    requires { ⌜ SumAccepted (lent «cos_theta» «sin_theta» «sin_lambda» «cos_lambda» ratio «time_delta» (now g) (now h) (now «g_dot») (now «h_dot»)) ⌝ }
+    requires { ⌜ T (circle «sin_theta» «cos_theta») ⌝ }
     ensures { λ r. ⌜ r ≡ general (inputs rounded (lent «cos_theta» «sin_theta» «sin_lambda» «cos_lambda» ratio «time_delta» (now (g .entry)) (now (h .entry)) (now («g_dot» .entry)) (now («h_dot» .entry)))) N-MAX ⌝ }
 {
     let a = sin_cos_m_lambda(sin_lambda, cos_lambda);

@@ -5,7 +5,9 @@ use crate::near_pole::synthesize_near_pole;
 ghost use mathlib.Core.Path.{_≡_};
 ghost use lib.ListN.{length};
 ghost use Rattle.tables.specs.Degree.{N-COEFF};
-ghost use Rattle.synthesis.specs.Sum.{SumAccepted, lent, valueOf};
+ghost use lib.Dec.{T};
+ghost use Rattle.exact.specs.Tests.{circle};
+ghost use Rattle.synthesis.specs.Sum.{lent, valueOf};
 
 const NEAR_POLE_SIN_THETA_MIN: f32 = f32::from_bits(0x3a83126f);
 
@@ -23,7 +25,7 @@ pub fn synthesize_geocentric_xyz(
     time_delta: f32,
 ) -> Xyz
     requires { ⌜ (length (now g) ≡ N-COEFF) × (length (now h) ≡ N-COEFF) × (length (now «g_dot») ≡ N-COEFF) × (length (now «h_dot») ≡ N-COEFF) ⌝ }
-    requires { ⌜ SumAccepted (lent «cos_theta» «sin_theta» «sin_lambda» «cos_lambda» ratio «time_delta» (now g) (now h) (now «g_dot») (now «h_dot»)) ⌝ }
+    requires { ⌜ T (circle «sin_theta» «cos_theta») ⌝ }
     ensures { λ r. ⌜ r ≡ valueOf (lent «cos_theta» «sin_theta» «sin_lambda» «cos_lambda» ratio «time_delta» (now (g .entry)) (now (h .entry)) (now («g_dot» .entry)) (now («h_dot» .entry))) ⌝ }
 {
     if float32::abs(sin_theta) < NEAR_POLE_SIN_THETA_MIN {

@@ -10,10 +10,17 @@ pub fn made(mut entry: impl FnMut(usize, usize) -> f32) -> [Vec<f32>; 4] {
     [0, 1, 2, 3].map(|list| (0..N_COEFF).map(|index| entry(list, index)).collect())
 }
 
-/// Ways to make four good lists.
-const GOOD: usize = 16;
+/// Four lists of 90 with one entry that is not zero.
+pub fn alone(list: usize, index: usize, value: f32) -> [Vec<f32>; 4] {
+    let mut lists = made(|_, _| 0.0);
+    lists[list][index] = value;
+    lists
+}
 
-fn good_lists(rng: &mut Rng, way: usize) -> [Vec<f32>; 4] {
+/// Ways to make four good lists.
+pub const GOOD: usize = 16;
+
+pub fn good_lists(rng: &mut Rng, way: usize) -> [Vec<f32>; 4] {
     match way {
         0 => Set::of(&WMM_MODELS[0]).lists,
         1 => Set::of(&WMM_MODELS[1]).lists,
@@ -25,27 +32,14 @@ fn good_lists(rng: &mut Rng, way: usize) -> [Vec<f32>; 4] {
         7 => made(|list, _| rng.sign() * step(CAPS[list], -1)),
         8 => made(|_, _| rng.sign() * f32::from_bits(rng.pick(&SMALL))),
         9 => made(|_, _| rng.sign() * f32::from_bits(rng.bits() >> 9)),
-        // one entry that is not zero
         10 => {
-            let (at, place) = (rng.below(4), rng.below(N_COEFF));
-            let value = rng.sign() * rng.between(0.0, 1.0) as f32 * CAPS[at];
-            made(|list, index| {
-                if (list, index) == (at, place) {
-                    value
-                } else {
-                    0.0
-                }
-            })
+            let (list, index) = (rng.below(4), rng.below(N_COEFF));
+            let value = rng.sign() * rng.between(0.0, 1.0) as f32 * CAPS[list];
+            alone(list, index, value)
         }
         // g_1^0 = -30000, and h_1^1 = 4500
-        11 => made(|list, index| {
-            if (list, index) == (0, 0) {
-                -30000.0
-            } else {
-                0.0
-            }
-        }),
-        12 => made(|list, index| if (list, index) == (1, 1) { 4500.0 } else { 0.0 }),
+        11 => alone(0, 0, -30000.0),
+        12 => alone(1, 1, 4500.0),
         // any scale, subnormals included
         13 => made(|list, _| any_scale(rng, -150.0, f64::from(CAPS[list]).log2())),
         // large beside small
@@ -64,7 +58,7 @@ fn good_lists(rng: &mut Rng, way: usize) -> [Vec<f32>; 4] {
 }
 
 /// Lengths that are refused.
-const LENGTHS: [usize; 5] = [0, 1, 89, 91, 128];
+pub const LENGTHS: [usize; 5] = [0, 1, 89, 91, 128];
 /// Ways to spoil one entry of one list, or to bring it to an end of its range.
 pub const ENTRIES: usize = 12;
 /// Those of them that spoil it, the first ones.
@@ -92,12 +86,13 @@ pub fn entry(rng: &mut Rng, list: usize, way: usize) -> f32 {
 /// each list, two entries spoilt, and a wrong length beside a spoilt entry.
 pub const SETS: usize = GOOD + 5 * LENGTHS.len() + 4 * ENTRIES + 16 + 4;
 
-fn resize(list: &mut Vec<f32>, length: usize) {
+pub fn resize(list: &mut Vec<f32>, length: usize) {
     let last = list.last().copied().unwrap_or(0.0);
     list.resize(length, last);
 }
 
-fn place(rng: &mut Rng) -> usize {
+/// The index of an entry, often the first or the last.
+pub fn place(rng: &mut Rng) -> usize {
     match rng.below(4) {
         0 => 0,
         1 => N_COEFF - 1,

@@ -87,7 +87,7 @@ pub fn axis_pair(rng: &mut Rng, way: usize) -> (f32, f32) {
     }
 }
 
-/// Ways for a longitude pair (sine, cosine).
+/// Ways for a longitude pair (sine, cosine). The first ones, the axes, are on the circle.
 pub const LONGITUDES: usize = AXES + EDGES;
 
 pub fn longitude(rng: &mut Rng, way: Option<usize>) -> (f32, f32) {
@@ -166,8 +166,15 @@ fn with_sin_theta(rng: &mut Rng, height: f32, sine: f32) -> (f32, f32) {
     (sin_phi, guess as f32)
 }
 
-/// Ways for a latitude pair (sine, cosine).
-pub const LATITUDES: usize = 2 * POLAR.len() + 7 + 1 + AXES + EDGES;
+/// Ways for a latitude pair (sine, cosine). The first ones are near a pole, then comes one beyond it,
+/// then the axes. All these are on the circle. The others are at its edge or off it.
+pub const NEAR_POLES: usize = 2 * POLAR.len() + 7;
+const AXES_FROM: usize = NEAR_POLES + 1;
+pub const ROUND_LATITUDES: usize = AXES_FROM + AXES;
+pub const LATITUDES: usize = ROUND_LATITUDES + EDGES;
+/// Those of them that are exactly at a pole, and exactly on the equator.
+pub const POLES: [usize; 4] = [AXES_FROM + 4, AXES_FROM + 5, AXES_FROM + 6, AXES_FROM + 7];
+pub const EQUATORS: [usize; 2] = [AXES_FROM, AXES_FROM + 2];
 
 pub fn latitude(rng: &mut Rng, height: f32, way: Option<usize>) -> (f32, f32) {
     let way = match way {
@@ -187,17 +194,17 @@ pub fn latitude(rng: &mut Rng, height: f32, way: Option<usize>) -> (f32, f32) {
     if way < polar {
         let sine = if way & 1 == 0 { 1.0 } else { -1.0 };
         (sine, f32::from_bits(POLAR[way / 2]))
-    } else if way < polar + 7 {
+    } else if way < NEAR_POLES {
         let sine = step(NEAR_POLE_SIN_THETA_MIN, (way - polar) as i32 - 3);
         let inside = (-1000.0..=850000.0).contains(&height);
         with_sin_theta(rng, if inside { height } else { 0.0 }, sine)
-    } else if way == polar + 7 {
+    } else if way < AXES_FROM {
         let (s, c) = random_pair(rng);
         (s, -c.abs()) // on the circle, and beyond the pole
-    } else if way < polar + 8 + AXES {
-        axis_pair(rng, way - polar - 8)
+    } else if way < ROUND_LATITUDES {
+        axis_pair(rng, way - AXES_FROM)
     } else {
-        let (s, c) = edge_pair(rng, way - polar - 8 - AXES);
+        let (s, c) = edge_pair(rng, way - ROUND_LATITUDES);
         (s, if rng.once_in(4) { c } else { c.abs() })
     }
 }

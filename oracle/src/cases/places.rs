@@ -35,6 +35,7 @@ impl Generator {
                 lists::good_set(&mut self.rng)
             };
             self.published = WMM_MODELS.iter().position(|model| Set::of(model) == set);
+            self.weak_day = None;
             self.replay.take(set, out);
         }
         self.serves -= 1;
@@ -109,6 +110,13 @@ impl Generator {
             (Some(place), _) => plan(&self.field_ways, place),
             (None, _) => random_plan(&self.field_ways, 16, rng),
         };
+        self.place_by(ways, date)
+    }
+
+    /// A place and a day. Where no way is given a part is random, and good as a rule. A given date
+    /// stands above the ways of year and day.
+    pub fn place_by(&mut self, ways: [Option<usize>; 5], date: Option<(i32, i32)>) -> Place {
+        let rng = &mut self.rng;
         let height = match ways[0] {
             Some(way) => self.pools.height[way],
             None if rng.once_in(2) => rng.between(-1000.0, 10000.0) as f32,

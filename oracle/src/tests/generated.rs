@@ -127,8 +127,8 @@ fn cases_meet_every_edge() {
     }
 }
 
-/// Every fault of a SUM or FIELD case, not only the one that is answered. A day's and a set's
-/// epoch count as two faults.
+/// Every fault of a SUM, FIELD or RATES case, not only the one that is answered. A day's and a set's
+/// epoch count as two faults. Of RATES 21 counts where all entries that are good are zero.
 fn faults(case: &Case, set: &Set) -> Vec<&'static str> {
     let lists = &set.lists;
     let spoilt = |i: usize| lists[i].iter().any(|x| !within(*x, -CAPS[i], CAPS[i]));
@@ -150,27 +150,15 @@ fn faults(case: &Case, set: &Set) -> Vec<&'static str> {
             ("10", !within(ratio, 0.875, 1.015625)),
             ("11", !within(offset, 0.0, 5.0)),
         ]),
-        Case::Field(Place {
-            height,
-            sin_phi,
-            cos_phi,
-            sin_lambda,
-            cos_lambda,
-            year,
-            day,
-        }) => {
-            let of_day = date_to_epoch_year(year);
-            let good = |epoch| epoch == 2020 || epoch == 2025;
-            tests.extend([
-                ("1", !within(height, -1000.0, 850000.0)),
-                ("2", off_the_circle(sin_phi, cos_phi)),
-                ("2 cosine", cos_phi < -CIRCLE_SLACK),
-                ("3", off_the_circle(sin_lambda, cos_lambda)),
-                ("4", day < 1 || day > days_in_year(year)),
-                ("5 day", !good(of_day)),
-                ("5 set", !good(set.epoch_year)),
-                ("8", set.epoch_year != of_day),
-            ]);
+        Case::Field(place) => tests.extend(place_faults(&place, set)),
+        Case::Rates(place) => {
+            let zero = |i: usize| {
+                lists[i]
+                    .iter()
+                    .all(|x| *x == 0.0 || !within(*x, -CAPS[i], CAPS[i]))
+            };
+            tests.extend(place_faults(&place, set));
+            tests.push(("21", (0..4).all(zero)));
         }
         _ => return vec![],
     }
@@ -178,9 +166,29 @@ fn faults(case: &Case, set: &Set) -> Vec<&'static str> {
     found.map(|test| test.0).collect()
 }
 
-#[test]
-fn cases_meet_every_pair_of_faults() {
-    let text = generated(11, 200_000);
+/// Those of a place and a day, and of the set's year.
+fn place_faults(place: &Place, set: &Set) -> [(&'static str, bool); 8] {
+    let of_day = date_to_epoch_year(place.year);
+    let good = |epoch| epoch == 2020 || epoch == 2025;
+    [
+        ("1", !within(place.height, -1000.0, 850000.0)),
+        ("2", off_the_circle(place.sin_phi, place.cos_phi)),
+        ("2 cosine", place.cos_phi < -CIRCLE_SLACK),
+        ("3", off_the_circle(place.sin_lambda, place.cos_lambda)),
+        ("4", place.day < 1 || place.day > days_in_year(place.year)),
+        ("5 day", !good(of_day)),
+        ("5 set", !good(set.epoch_year)),
+        ("8", set.epoch_year != of_day),
+    ]
+}
+
+/// What FIELD can be refused for.
+pub const OF_FIELD: [&str; 10] = [
+    "1", "2", "2 cosine", "3", "4", "5 day", "5 set", "6", "7", "8",
+];
+
+/// The first byte of a line with two of its faults, or with the only one twice.
+pub fn met_faults(text: &[u8]) -> BTreeSet<(u8, &'static str, &'static str)> {
     let mut met = BTreeSet::new();
     let mut set = Set::default();
     for line in text.split(|byte| *byte == b'\n') {
@@ -205,11 +213,14 @@ fn cases_meet_every_pair_of_faults() {
             }
         }
     }
+    met
+}
+
+#[test]
+fn cases_meet_every_pair_of_faults() {
+    let met = met_faults(&generated(11, 200_000));
     let of_sum = ["9", "3", "10", "11", "6", "7"];
-    let of_field = [
-        "1", "2", "2 cosine", "3", "4", "5 day", "5 set", "6", "7", "8",
-    ];
-    for (kind, names) in [(b'S', &of_sum[..]), (b'F', &of_field[..])] {
+    for (kind, names) in [(b'S', &of_sum[..]), (b'F', &OF_FIELD[..])] {
         for first in names {
             for second in names {
                 // a bad epoch year is also another one

@@ -1,82 +1,94 @@
 //! Each refusal alone, and of two faults the one that document 01 names first.
 use crate::entries::{
-    epoch, field, grid_variation, off_the_circle, square_root, sum, total, uncertainty, Refusal,
-    Set,
+    epoch, field, grid_variation, off_the_circle, square_root, sum, total, uncertainty, Place,
+    Refusal, Set,
 };
 use crate::field::GeomagneticField;
 use crate::models::{days_in_year, model_by_epoch_year, WMM_ERROR_MODELS};
+use crate::rates::rates;
 
 type Pair = (f32, f32);
 
+/// A question to Field or to Rates.
 #[derive(Clone)]
-struct FieldCall {
-    height: f32,
-    latitude: Pair,
-    longitude: Pair,
-    year: i32,
-    day: i32,
+struct Call {
+    place: Place,
     set: Set,
 }
 
-impl FieldCall {
-    fn number(&self) -> u32 {
-        let (sin_phi, cos_phi) = self.latitude;
-        let (sin_lambda, cos_lambda) = self.longitude;
-        let answer = field(
-            self.height,
-            sin_phi,
-            cos_phi,
-            sin_lambda,
-            cos_lambda,
-            self.year,
-            self.day,
-            &self.set,
-        );
-        answer.map_or_else(number, |_| 0)
+/// A refusal's number, and what brings it about in a good question.
+type Fault = (u32, fn(&mut Call));
+
+/// Field's refusals, in its order.
+const FAULTS: [Fault; 9] = [
+    (1, |call| call.place.height = f32::NAN),
+    (2, |call| call.place.cos_phi = 0.9),
+    (3, |call| call.place.cos_lambda = f32::INFINITY),
+    (4, |call| call.place.day = 0),
+    (5, |call| call.place.year = 2031),
+    (5, |call| call.set.epoch_year = 2021),
+    (6, |call| call.set.lists[3].truncate(89)),
+    (7, |call| call.set.lists[1][5] = 65536.01),
+    (8, |call| call.set.epoch_year = 2025),
+];
+
+/// No field, and so no H.
+const NO_FIELD: Fault = (21, |call| {
+    for list in &mut call.set.lists {
+        list.fill(0.0);
     }
-}
+});
 
 fn number(refusal: Refusal) -> u32 {
     refusal.number()
 }
 
-#[test]
-fn field_refuses_in_order() {
-    let good = FieldCall {
-        height: 100.0,
-        latitude: (0.6, 0.8),
-        longitude: (0.0, -1.0),
-        year: 2022,
-        day: 100,
+/// Each fault alone, and of every two the first.
+fn refuses_in_order(faults: &[Fault], ask: fn(&Call) -> u32) {
+    let good = Call {
+        place: Place {
+            height: 100.0,
+            sin_phi: 0.6,
+            cos_phi: 0.8,
+            sin_lambda: 0.0,
+            cos_lambda: -1.0,
+            year: 2022,
+            day: 100,
+        },
         set: Set::of(model_by_epoch_year(2020).unwrap()),
     };
-    assert_eq!(good.number(), 0);
-    type Fault = (u32, fn(&mut FieldCall));
-    let faults: [Fault; 9] = [
-        (1, |call| call.height = f32::NAN),
-        (2, |call| call.latitude = (0.6, 0.9)),
-        (3, |call| call.longitude = (0.0, f32::INFINITY)),
-        (4, |call| call.day = 0),
-        (5, |call| call.year = 2031),
-        (5, |call| call.set.epoch_year = 2021),
-        (6, |call| call.set.lists[3].truncate(89)),
-        (7, |call| call.set.lists[1][5] = 65536.01),
-        (8, |call| call.set.epoch_year = 2025),
-    ];
+    assert_eq!(ask(&good), 0);
     for (i, (first, spoil)) in faults.iter().enumerate() {
         let mut call = good.clone();
         spoil(&mut call);
-        assert_eq!(call.number(), *first);
-        for (second, spoil) in &faults[i + 1..] {
+        assert_eq!(ask(&call), *first);
+        for (second, spoil_too) in &faults[i + 1..] {
             // the set's epoch is spoilt by one fault at a time
             if (*first, *second) == (5, 8) {
                 continue;
             }
-            let mut both = call.clone();
+            // the later fault comes first: it may write over all entries
+            let mut both = good.clone();
+            spoil_too(&mut both);
             spoil(&mut both);
-            assert_eq!(both.number(), *first, "{first} and {second}");
+            assert_eq!(ask(&both), *first, "{first} and {second}");
         }
     }
+}
+
+#[test]
+fn field_refuses_in_order() {
+    refuses_in_order(&FAULTS, |call| {
+        call.place.field(&call.set).map_or_else(number, |_| 0)
+    });
+}
+
+#[test]
+fn rates_refuse_in_order() {
+    let faults: Vec<Fault> = FAULTS.into_iter().chain([NO_FIELD]).collect();
+    refuses_in_order(&faults, |call| {
+        rates(&call.place, &call.set).map_or_else(number, |_| 0)
+    });
 }
 
 #[test]

@@ -1,9 +1,9 @@
--- `field::turn::turn` meets its contract. Assumes nothing.
+-- `field::axes::turn` meets its contract. Assumes nothing.
 use mathlib.Core.Path.{refl}
 use Rattle.sums.specs.Arithmetic.{rounded}
 use Rattle.field.specs.Turn.{turned, turn-x, turn-z, sin-turn, cos-turn}
-use Rattle.field.proofs.turn.turn.Statement.{statement}
-use Rattle.field.proofs.turn.turn.Tie as tie
+use Rattle.field.proofs.axes.turn.Statement.{statement}
+use Rattle.field.proofs.axes.turn.Tie as tie
 
 returns : tie.Need-returns
 unfolding turned turn-x turn-z sin-turn cos-turn rounded

@@ -1,0 +1,2 @@
+-- Definitions: Rates.
+pub mod Rates
