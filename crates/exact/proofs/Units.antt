@@ -73,11 +73,14 @@ pub record Near (f : Float) (num den : ℕ) : Type 0 where
   pub is : In n f
   pub about : About n (num * ONE) den
 
-near-round : (s : Bool) (num den : ℕ) → 0 < den → num < 2 ^ 127 * den → Near (round binary32 s num den) num den
-near-round s num den D h =
+about-grid : (num den : ℕ) → 0 < den → About (grid binary32 num den) (num * ONE) den
+about-grid num den D =
     let m = moved num den D in
     let g = grid binary32 num den in
-    record { n = g; is = record { sign = s; has = round-value s num den D h }; about = record { high = moved-high ONE (num * ONE) den g m; low = moved-low ONE (num * ONE) den g m } }
+    record { high = moved-high ONE (num * ONE) den g m; low = moved-low ONE (num * ONE) den g m }
+
+near-round : (s : Bool) (num den : ℕ) → 0 < den → num < 2 ^ 127 * den → Near (round binary32 s num den) num den
+near-round s num den D h = record { n = grid binary32 num den; is = record { sign = s; has = round-value s num den D h }; about = about-grid num den D }
 
 -- one factor of both left out
 less-factor : (n x d u : ℕ) → 0 < u → About n (x * u) (d * u) → About n x d
@@ -129,12 +132,11 @@ pub record Square (a : ℕ) (f : Float) : Type 0 where
 pub in-square : {a : ℕ} (x : Float) → In a x → a * a < 2 ^ 127 * (ONE * ONE) → Square a (mul binary32 x x)
 in-square {a} x i h =
     let U = pow-pos 149 in
-    let m = moved (a * a) (ONE * ONE) (mul-pos U U) in
     let g = grid binary32 (a * a) (ONE * ONE) in
     record {
       n = g;
       has = subst (λ (f : Float). HasValue f false g ONE) (sym (square-is x (i .sign) a ONE U (i .has))) (round-value false (a * a) (ONE * ONE) (mul-pos U U) h);
-      about = less-factor g (a * a) ONE ONE U (record { high = moved-high ONE (a * a * ONE) (ONE * ONE) g m; low = moved-low ONE (a * a * ONE) (ONE * ONE) g m });
+      about = less-factor g (a * a) ONE ONE U (about-grid (a * a) (ONE * ONE) (mul-pos U U));
     }
 
 -- two factors that are small enough
@@ -228,13 +230,12 @@ pub record ClearSum (a b : ℕ) (f : Float) : Type 0 where
 pub clear-add : {a b : ℕ} (x y : Float) → HasValue x false a ONE → HasValue y false b ONE → a + b < 2 ^ 127 * ONE → ClearSum a b (add binary32 x y)
 clear-add {a} {b} x y v w h =
     let g = grid binary32 (a + b) ONE in
-    let m = moved (a + b) ONE (pow-pos 149) in
     let e = sym (add-is x y a b ONE (pow-pos 149) v w) in
     let one : (z : ℕ) → 1 * z ≡ z = λ z. omega arith in
     record {
       n = g;
       has = subst (λ (f : Float). HasValue f false g ONE) e (round-value false (a + b) ONE (pow-pos 149) h);
-      about = less-factor g (a + b) 1 ONE (pow-pos 149) (rw (one ONE) (record { high = moved-high ONE ((a + b) * ONE) ONE g m; low = moved-low ONE ((a + b) * ONE) ONE g m }));
+      about = less-factor g (a + b) 1 ONE (pow-pos 149) (rw (one ONE) (about-grid (a + b) ONE (pow-pos 149)));
     }
 
 -- what a quotient gives

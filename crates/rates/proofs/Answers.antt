@@ -3,6 +3,7 @@ use mathlib.Core.Path.{_≡_, refl, sym, ap, _∙_, subst}
 use mathlib.Core.Bool.{Bool, true, false, not, _||_}
 use lib.IntN.{ℤ}
 use lib.Ieee.{binary32, ofBits, eq}
+use borrow.Author.Tests.{not-true}
 use Rattle.refusals.specs.Paper.{Paper, answered, paper, unless, after}
 use Rattle.refusals.specs.declared.Refusal.{Refusal}
 use Rattle.refusals.specs.declared.Refusal.the-variants.{ZeroDivisor}
@@ -80,11 +81,7 @@ unfolding ratesSays ratesWith
 behind-answer a year day u h =
     let q = after-answered (fieldSays a year day) (ratesWith (componentRates a)) u h in
     let p = passed (not (zeroDivisor (q .0))) ZeroDivisor (answered (ratesOf (q .0) (componentRates a))) u (q .1 .1) in
-    record { field = q .0; is-field = q .1 .0; divides = no (zeroDivisor (q .0)) (p .0); is = answered-one (ratesOf (q .0) (componentRates a)) u (p .1) }
-  where
-    no : (b : Bool) → not b ≡ true → b ≡ false
-    no true e = sym e
-    no false e = refl
+    record { field = q .0; is-field = q .1 .0; divides = not-true (zeroDivisor (q .0)) (p .0); is = answered-one (ratesOf (q .0) (componentRates a)) u (p .1) }
 
 -- demand 3
 pub answer-close : (a : Asked) (year day : ℤ) (r : RatesAnswer) → said r ≡ ratesSays a year day → (u : YearlyRates) → r ≡ Answer.Rates u → RatesClose a u

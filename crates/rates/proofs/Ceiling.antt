@@ -37,13 +37,12 @@ full-reach : Reach full (2 ^ 57) (2 ^ 63)
 unfolding ceilings upward invE own ofBits ofInt round lit schmidtAt schmidtBits kOf angle pole-angle step legendre total gc-hs gs-hc psn dpsn power x-row y-row z-row x-sum y-sum z-sum quotient pole-gc pole-gs pole-x-row pole-z-row pole-x pole-y pole-z top full
 full-reach = record { X = 3 * 2 ^ 53; Y = 2 ^ 53 - 1; sums = (refl, refl, refl, refl, refl, refl); turned = lit≤ tt; divided = lit≤ tt; pole = lit≤ tt }
 
--- a float near a number whose majorant is at most T units of 2 ^ -20
-bounded : (f : Float) (x : Exact) (M : Size) (T : ℕ) → size x ≡ M → Within f x M → Under M T → (own f .plus + own f .minus) * (FINE * FINE) ≤ (T * (FINE + 8) + FINE) * own f .over
-bounded f x M T e w u = let v = subst (λ (z : Size). Within f x z) (sym e) w in within-size f x T v (subst (λ (z : Size). Under z T) (sym e) u .units (v .some-over))
-
--- the same in units of 2 ^ -149: at most k
-in-size : (f : Float) (T k n : ℕ) → T * (FINE + 8) + FINE ≤ k * (FINE * FINE) → (own f .plus + own f .minus) * (FINE * FINE) ≤ (T * (FINE + 8) + FINE) * own f .over → In n f → n ≤ k * ONE
-in-size f T k n h b i = le-of-mul-le-mul-right (le-trans (in-most (T * (FINE + 8) + FINE) (FINE * FINE) f i b) (le-trans (mul-le-mul-right ONE h) (le-of-eq (mul-right-comm k (FINE * FINE) ONE)))) (lit< tt)
+-- a float near a number whose majorant is at most T units of 2 ^ -20 is itself at most k
+most : (T k : ℕ) → T * (FINE + 8) + FINE ≤ k * (FINE * FINE) → (f : Float) (x : Exact) (M : Size) → size x ≡ M → Within f x M → Under M T → (n : ℕ) → In n f → n ≤ k * ONE
+most T k h f x M e w u n i =
+    let v = subst (λ (z : Size). Within f x z) (sym e) w in
+    let b = within-size f x T v (subst (λ (z : Size). Under z T) (sym e) u .units (v .some-over)) in
+    le-of-mul-le-mul-right (le-trans (in-most (T * (FINE + 8) + FINE) (FINE * FINE) f i b) (le-trans (mul-le-mul-right ONE h) (le-of-eq (mul-right-comm k (FINE * FINE) ONE)))) (lit< tt)
 
 module _ (a : Asked) (year day : ℤ) (v : GeomagneticField) (h : fieldSays a year day ≡ answered v) where
   abbrev of-rates : Asked
@@ -71,10 +70,10 @@ module _ (a : Asked) (year day : ℤ) (v : GeomagneticField) (h : fieldSays a ye
   h-full n m = let k = under-related in k .plus (rate-under _ (leaves .h-dot n m)) (k .times (k .num (ofBits binary32 0)) (rate-under _ (leaves .h-dot n m)))
 
   pub x-rate-most : (n : ℕ) → In n (field-x rounded of-rates at) → n ≤ 2 ^ 38 * ONE
-  x-rate-most n i = in-size _ (2 ^ 57) (2 ^ 38) n (lit≤ tt) (bounded _ _ _ (2 ^ 57) (field-x-image size-hom of-rates at) (close-x of-rates at accepted listed) (field-x-under of-rates at accepted listed full-reach g-full h-full)) i
+  x-rate-most = most (2 ^ 57) (2 ^ 38) (lit≤ tt) _ _ _ (field-x-image size-hom of-rates at) (close-x of-rates at accepted listed) (field-x-under of-rates at accepted listed full-reach g-full h-full)
 
   pub y-rate-most : (n : ℕ) → In n (field-y rounded of-rates at) → n ≤ 9 * 2 ^ 40 * ONE
-  y-rate-most n i = in-size _ (2 ^ 63) (9 * 2 ^ 40) n (lit≤ tt) (bounded _ _ _ (2 ^ 63) (field-y-image size-hom of-rates at) (close-y of-rates at accepted listed) (field-y-under of-rates at accepted listed full-reach g-full h-full)) i
+  y-rate-most = most (2 ^ 63) (9 * 2 ^ 40) (lit≤ tt) _ _ _ (field-y-image size-hom of-rates at) (close-y of-rates at accepted listed) (field-y-under of-rates at accepted listed full-reach g-full h-full)
 
   pub z-rate-most : (n : ℕ) → In n (field-z rounded of-rates at) → n ≤ 2 ^ 38 * ONE
-  z-rate-most n i = in-size _ (2 ^ 57) (2 ^ 38) n (lit≤ tt) (bounded _ _ _ (2 ^ 57) (field-z-image size-hom of-rates at) (close-z of-rates at accepted listed) (field-z-under of-rates at accepted listed full-reach g-full h-full)) i
+  z-rate-most = most (2 ^ 57) (2 ^ 38) (lit≤ tt) _ _ _ (field-z-image size-hom of-rates at) (close-z of-rates at accepted listed) (field-z-under of-rates at accepted listed full-reach g-full h-full)

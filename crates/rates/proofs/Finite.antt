@@ -7,9 +7,11 @@ use native.Mathlib.Nat.{le-trans, le-of-eq, lt-of-le-of-lt, lt-of-lt-of-le, mul-
 use native.Mathlib.Omega.{arith}
 use lib.Dec.{T, lit≤, lit<}
 use lib.Pow.{pow-pos}
-use lib.Ieee.{Float, binary32, ofBits, add, sub, mul, div}
+use lib.Ieee.{Float, binary32, fits, ofBits, add, sub, mul, div}
 use lib.Ieee.Scale.{finite}
+use Rattle.exact.specs.Exact.{unitsOf}
 use Rattle.exact.proofs.Units.{ONE, In, Product, Quotient, Sum, by-first, by-second, in-add, in-div, in-finite, in-mul, in-sub, small-product}
+use Rattle.roots.proofs.Laws.{own-units}
 use Rattle.synthesis.specs.declared.Xyz.{Xyz}
 use Rattle.strengths.specs.declared.GeomagneticField.{GeomagneticField}
 use Rattle.strengths.specs.Strengths.{fOf, hOf}
@@ -57,10 +59,14 @@ under-square N n m K c l g s = le-of-mul-le-mul-right (le-of-mul-le-mul-right (g
         by-eq : {a b x y : ℕ} → x ≤ y → a ≡ x → y ≡ b → a ≤ b
         by-eq h e f = le-trans (le-of-eq e) (le-trans h (le-of-eq f))
 
--- how many degrees a radian has, in units
-radian-is : In (15019745 * 2 ^ 131) degrees-in-radian
+-- a radian has at most 58 degrees
+radian-is : In (unitsOf degrees-in-radian) degrees-in-radian
+unfolding ofBits fits
+radian-is = record { sign = false; has = own-units degrees-in-radian tt tt }
+
+radian-most : unitsOf degrees-in-radian ≤ 58 * ONE
 unfolding ofBits
-radian-is = record { sign = false; has = (refl, refl) }
+radian-most = lit≤ tt
 
 degrees-finite : {N n : ℕ} (q r : Float) → In N q → Squared n r → (K : ℕ) → K ≤ 42 * 2 ^ 40 → N ≤ K * n → 2 ^ 74 ≤ n → T (finite (toDegrees (div binary32 q (mul binary32 r r))))
 degrees-finite {N} {n} q r i s K c l g =
@@ -68,7 +74,7 @@ degrees-finite {N} {n} q r i s K c l g =
     let d = in-div q (mul binary32 r r) i (square-in s) (s .some) (lt-of-le-of-lt b (mul-lt-mul-of-pos-right (lit< tt) (s .some))) in
     let t = quotient-most (d .n) N (s .m) (2 ^ 121) ONE (s .some) (pow-pos 149) b (d .about .high) in
     let e : d .n ≤ 17 * 2 ^ 117 * ONE = go (d .n) (2 ^ 117) ONE (pow-pos 149) (pow-pos 117) t in
-    let p = in-mul (div binary32 q (mul binary32 r r)) degrees-in-radian (d .is) radian-is (small-product (d .n) (15019745 * 2 ^ 131) (17 * 2 ^ 117) 58 ONE e (lit≤ tt) (pow-pos 149) (lit< tt)) in
+    let p = in-mul (div binary32 q (mul binary32 r r)) degrees-in-radian (d .is) radian-is (small-product (d .n) (unitsOf degrees-in-radian) (17 * 2 ^ 117) 58 ONE e radian-most (pow-pos 149) (lit< tt)) in
     in-finite _ (p .is)
   where
     go : (t W U : ℕ) → 0 < U → 0 < W → 33554432 * t ≤ 33554434 * (16 * W * U) + 16777216 → t ≤ 17 * W * U
