@@ -21,7 +21,7 @@ static const char *const WORDS[] = {
     "the longitude is no longitude",
     "that year has no such day",
     "no model serves that day: the models serve from day 1 of 2020 to day 365 of 2029",
-    "a list of coefficients is not 90 long",
+    "a list of coefficients is not 90 long, nor 104 where that is taken",
     "a coefficient is not finite or is too large",
     "the set of coefficients belongs to another epoch than the day",
     "the colatitude is no colatitude",
@@ -37,6 +37,7 @@ static const char *const WORDS[] = {
     "the stored set is cut short, or bytes are left over",
     "there is no room for the stored set, or its epoch year is not from 0 to 65535",
     "there is no yearly change, since H is zero",
+    [NJERUMOY_DEGREE] = "some lists of coefficients are 90 long, the others 104",
 };
 
 /* What is asked: degrees, metres, and a day. */

@@ -3,10 +3,10 @@
  * Every function returns a refusal number: 0 where it has an answer, else one of the numbers below.
  * A place that is lent for a result is written only where the call has that result; else it keeps
  * what it held. The lists of coefficients and of error records are only read, but by
- * njerumoy_read_cof and njerumoy_read_stored: to these two the coefficients' are places for results.
- * The bytes of a stored set are only read, but by njerumoy_write_stored. Nothing is kept between two
- * calls, so calls may run at the same time in several threads. Of other libraries only memcpy and
- * memset are called.
+ * njerumoy_read_cof, njerumoy_read_stored and njerumoy_read_stored_either: to these three the
+ * coefficients' are places for results. The bytes of a stored set are only read, but by
+ * njerumoy_write_stored and njerumoy_write_stored_either. Nothing is kept between two calls, so calls
+ * may run at the same time in several threads. Of other libraries only memcpy and memset are called.
  *
  * Whatever numbers and bytes come, a call ends and answers as this file says: NaNs, infinities, and
  * lists, texts and stored bytes of any length. What the caller owes is what C cannot say:
@@ -33,9 +33,13 @@
 extern "C" {
 #endif
 
-/* The length of each of the four lists g, h, g_dot, h_dot. The coefficient of degree n and order m,
- * 1 <= n <= 12 and 0 <= m <= n, stands at n * (n + 1) / 2 + m - 1. */
+/* The length of each of the four lists g, h, g_dot, h_dot, which is the same for all four: 90 is a set
+ * of degree 12, as the WMM's are, and 104 one of degree 13. The coefficient of degree n and order m,
+ * 1 <= n and 0 <= m <= n, stands at n * (n + 1) / 2 + m - 1. A coefficient file is of degree 12: to the
+ * call that reads one a list is 90 long. So it is to the calls with a stored set, but to those whose
+ * names end in _either. */
 #define NJERUMOY_LIST_LENGTH 90
+#define NJERUMOY_LIST_LENGTH_13 104
 
 /* The refusals. The first that applies is returned, in the order that each function gives. */
 enum {
@@ -53,7 +57,8 @@ enum {
     /* no model: the epoch year, of the day, of the set or as given, is neither 2020 nor 2025. The
      * two models serve from day 1 of 2020 to day 365 of 2029. */
     NJERUMOY_EPOCH_YEAR = 5,
-    /* one of the four lists is not 90 long */
+    /* one of the four lists is neither 90 nor 104 long; of a coefficient file, or of a stored set by a
+     * call whose name does not end in _either, it is not 90 long */
     NJERUMOY_LENGTH = 6,
     /* a coefficient is not finite, or over its cap: 65536 nT in g and h, 4096 nT a year in the
      * rates. `entry` is told the first one. */
@@ -88,7 +93,10 @@ enum {
      * to 65535 */
     NJERUMOY_NO_ROOM = 20,
     /* there are no yearly rates: H is zero, and is a divisor of them */
-    NJERUMOY_ZERO_DIVISOR = 21
+    NJERUMOY_ZERO_DIVISOR = 21,
+    /* lists of different degree: some of the four are 90 long, the others 104; or the four that a
+     * stored set is read into are of the other length than the stored ones */
+    NJERUMOY_DEGREE = 23
 };
 
 /* A pair (sine, cosine) is off the circle where one of them is not finite, or the sum of their
@@ -113,7 +121,8 @@ uint32_t njerumoy_sine_and_cosine(float degrees, float *sine, float *cosine);
  * sin_phi ..    sine and cosine of the geodetic latitude, and of the longitude
  * year, day_of_year   the day; day_of_year is 1 on the first of January
  * epoch_year    the epoch year of the set, 2020 or 2025
- * g .. h_dot    the set, each list with its length
+ * g .. h_dot    the set, each list with its length: all four 90 for degree 12, or all four 104 for
+ *               degree 13
  * xyz           X (north), Y (east) and Z (down)
  * errors        the error figures of the model, by NJERUMOY_ERROR_..
  * entry         of refusal 7: the list (0 g, 1 h, 2 g_dot, 3 h_dot) and the index from 0
@@ -123,7 +132,7 @@ uint32_t njerumoy_sine_and_cosine(float degrees, float *sine, float *cosine);
  * in size, orders 2 and above are left out, as in the Rust crate world_magnetic_model: with the
  * published sets that is up to 11 nT in X and Y, which njerumoy_allowance does not count.
  *
- * Refusals, in this order: 1, 2, 3, 4, 5, 6, 7, 8. */
+ * Refusals, in this order: 1, 2, 3, 4, 5, 6, 23, 7, 8. */
 uint32_t njerumoy_field(float height, float sin_phi, float cos_phi, float sin_lambda,
                         float cos_lambda, int32_t year, int32_t day_of_year, int32_t epoch_year,
                         const float *g, size_t g_length, const float *h, size_t h_length,
@@ -137,7 +146,7 @@ uint32_t njerumoy_field(float height, float sin_phi, float cos_phi, float sin_la
  * latitude_deg, longitude_deg    north and east positive
  * the others    as in njerumoy_field
  *
- * Refusals, in this order: 16, by the latitude; 16, by the longitude; 1, 2, 4, 5, 6, 7, 8 as in
+ * Refusals, in this order: 16, by the latitude; 16, by the longitude; 1, 2, 4, 5, 6, 23, 7, 8 as in
  * njerumoy_field. 2 is only of a latitude beyond 90 degrees, of either sign; a latitude that is beyond
  * by less than 2^-20 radians can be answered. */
 uint32_t njerumoy_field_in_degrees(float height, float latitude_deg, float longitude_deg,
@@ -184,8 +193,8 @@ _Static_assert(sizeof(struct njerumoy_error_record) == 36, "an error record has 
  * errors        the figures of that record
  * entry, years  as in njerumoy_field
  *
- * Refusals, in this order: 1, 2, 3, 4, 5, 6, 7, 8 as in njerumoy_field; 15; 12, by any of the eight
- * figures. So a list changes neither the days nor the sets that are served. */
+ * Refusals, in this order: 1, 2, 3, 4, 5, 6, 23, 7, 8 as in njerumoy_field; 15; 12, by any of the
+ * eight figures. So a list changes neither the days nor the sets that are served. */
 uint32_t njerumoy_field_listed(float height, float sin_phi, float cos_phi, float sin_lambda,
                                float cos_lambda, int32_t year, int32_t day_of_year,
                                int32_t epoch_year, const float *g, size_t g_length, const float *h,
@@ -234,8 +243,8 @@ uint32_t njerumoy_allowance(float height, float sin_phi, float cos_phi, float si
  *   H             (X * X rate + Y * Y rate) / H
  *   F             (X * X rate + Y * Y rate + Z * Z rate) / F
  *
- * Refusals, in this order: 1, 2, 3, 4, 5, 6, 7, 8 as in njerumoy_field; 21, exactly where H is zero.
- * Where H is above zero so is F, and there is an answer. */
+ * Refusals, in this order: 1, 2, 3, 4, 5, 6, 23, 7, 8 as in njerumoy_field; 21, exactly where H is
+ * zero. Where H is above zero so is F, and there is an answer. */
 uint32_t njerumoy_rates(float height, float sin_phi, float cos_phi, float sin_lambda,
                         float cos_lambda, int32_t year, int32_t day_of_year, int32_t epoch_year,
                         const float *g, size_t g_length, const float *h, size_t h_length,
@@ -259,11 +268,12 @@ enum {
  * sin_lambda, cos_lambda  of the longitude
  * ratio         the model's reference radius, 6371200 m, over the distance from the Earth's centre
  * offset        years since the set's epoch
+ * g .. h_dot    as in njerumoy_field
  * xyz           X', Y and Z': along the geocentric axes, X' and Z' with the sign turned round
  *               (south and up)
  * entry         as in njerumoy_field
  *
- * Refusals, in this order: 9, 3, 10, 11, 6, 7. */
+ * Refusals, in this order: 9, 3, 10, 11, 6, 23, 7. */
 uint32_t njerumoy_sum(float cos_theta, float sin_theta, float sin_lambda, float cos_lambda,
                       float ratio, float offset, const float *g, size_t g_length, const float *h,
                       size_t h_length, const float *g_dot, size_t g_dot_length,
@@ -275,7 +285,7 @@ uint32_t njerumoy_epoch(int32_t year, int32_t day_of_year, int32_t *epoch_year, 
 /* Read: a coefficient set from the agency's file WMM.COF.
  *
  * text          the file's bytes, with their number
- * g .. h_dot    where the set is put, each list with its length
+ * g .. h_dot    where the set is put, each list with its length, 90
  * epoch_year    the set's epoch year. Any whole number is read; njerumoy_field refuses others by 5
  * entry         of refusal 7: as in njerumoy_field
  * line          of refusals 13 and 14: the number of the line; the first is 1
@@ -301,8 +311,8 @@ uint32_t njerumoy_read_cof(const uint8_t *text, size_t text_length, float *g, si
                            float *h_dot, size_t h_dot_length, int32_t *epoch_year, size_t entry[2],
                            size_t *line);
 
-/* The number of bytes of a stored set. */
-enum { NJERUMOY_STORED_LENGTH = 1457 };
+/* The number of bytes of a stored set: of degree 12, and of degree 13. */
+enum { NJERUMOY_STORED_LENGTH = 1457, NJERUMOY_STORED_LENGTH_13 = 1681 };
 
 /* A stored set is a coefficient set as bytes, to be kept in a file or handed across: five fields, in
  * this order, and nothing else.
@@ -314,6 +324,9 @@ enum { NJERUMOY_STORED_LENGTH = 1457 };
  *     731     4      360   g_dot
  *    1094     5      360   h_dot
  *
+ * Of degree 13 the content of a list is 416 bytes, the bits of 104 floats: then the places are 0, 5,
+ * 424, 843 and 1262. The four lists are of one length, and that of g says which form it is.
+ *
  * A field is its tag, of one byte, the length of its content, of two, and the content. Of the year, of
  * a length and of the bits of a float the low byte comes first. Places are counted from 0.
  *
@@ -322,7 +335,7 @@ enum { NJERUMOY_STORED_LENGTH = 1457 };
 /* Read a stored set.
  *
  * stored        the bytes, with their number
- * g .. h_dot    where the set is put, each list with its length
+ * g .. h_dot    where the set is put, each list with its length, 90
  * epoch_year    the set's epoch year. Any year is read; njerumoy_field refuses others by 5
  * entry         of refusal 7: as in njerumoy_field
  * place         of refusals 17, 18 and 19: the place in the bytes
@@ -339,7 +352,7 @@ uint32_t njerumoy_read_stored(const uint8_t *stored, size_t stored_length, float
 /* Write a set as a stored set.
  *
  * epoch_year    the set's epoch year
- * g .. h_dot    the set, each list with its length
+ * g .. h_dot    the set, each list with its length, 90
  * stored        where the bytes are put, with the number of bytes that there is room for. Those beyond
  *               the first NJERUMOY_STORED_LENGTH stay as they were
  * entry         of refusal 7: as in njerumoy_field
@@ -349,6 +362,35 @@ uint32_t njerumoy_write_stored(int32_t epoch_year, const float *g, size_t g_leng
                                size_t h_length, const float *g_dot, size_t g_dot_length,
                                const float *h_dot, size_t h_dot_length, uint8_t *stored,
                                size_t stored_length, size_t entry[2]);
+
+/* Read a stored set of either degree.
+ *
+ * g .. h_dot    where the set is put, each list with its length: all four 90, or all four 104, as the
+ *               stored ones are
+ * the others    as in njerumoy_read_stored
+ *
+ * Refusals: 6, 23, by the lengths that are lent; then the first place in the bytes that is refused, by
+ * 17, 18 or 19, as in njerumoy_read_stored; then, of bytes that are all in order, 23 where the stored
+ * lists are of the other length, and 7. A set whose tag 2 has the length 416 is taken to be of degree
+ * 13, any other of degree 12: so a later list of another length than that of tag 2 is refused by 18.
+ * Of 19 the place is the length of the form where bytes are left over. Whichever degree is stored, bytes
+ * can be read by two calls: with lists of 90 and, where these are refused by 23, with lists of 104. */
+uint32_t njerumoy_read_stored_either(const uint8_t *stored, size_t stored_length, float *g,
+                                     size_t g_length, float *h, size_t h_length, float *g_dot,
+                                     size_t g_dot_length, float *h_dot, size_t h_dot_length,
+                                     int32_t *epoch_year, size_t entry[2], size_t *place);
+
+/* Write a set of either degree as a stored set.
+ *
+ * g .. h_dot    the set, each list with its length: all four 90, or all four 104
+ * stored        as in njerumoy_write_stored; lists of 104 take NJERUMOY_STORED_LENGTH_13 bytes
+ * the others    as in njerumoy_write_stored
+ *
+ * Refusals, in this order: 6, 23, 7, 20. A refused set leaves all bytes as they were. */
+uint32_t njerumoy_write_stored_either(int32_t epoch_year, const float *g, size_t g_length,
+                                      const float *h, size_t h_length, const float *g_dot,
+                                      size_t g_dot_length, const float *h_dot, size_t h_dot_length,
+                                      uint8_t *stored, size_t stored_length, size_t entry[2]);
 
 /* Field, with the set as stored bytes: all is told as njerumoy_field tells it of the set that
  * njerumoy_read_stored reads, to the bit.
@@ -363,6 +405,19 @@ uint32_t njerumoy_field_stored(const uint8_t *stored, size_t stored_length, floa
                                float sin_phi, float cos_phi, float sin_lambda, float cos_lambda,
                                int32_t year, int32_t day_of_year, float xyz[3], float errors[8],
                                size_t entry[2], int32_t years[2], size_t *place);
+
+/* Field, with a stored set of either degree: all is told as njerumoy_field tells it of the set that
+ * njerumoy_read_stored_either reads into lists of the stored length, to the bit.
+ *
+ * stored .. place   as in njerumoy_field_stored
+ *
+ * Refusals, in this order: those of njerumoy_read_stored_either, without 6 and 23; 1, 2, 3, 4, 5, 8 as
+ * in njerumoy_field. */
+uint32_t njerumoy_field_stored_either(const uint8_t *stored, size_t stored_length, float height,
+                                      float sin_phi, float cos_phi, float sin_lambda,
+                                      float cos_lambda, int32_t year, int32_t day_of_year,
+                                      float xyz[3], float errors[8], size_t entry[2],
+                                      int32_t years[2], size_t *place);
 
 /* The strengths over a field's X, Y and Z. Refusal 12, by any of the three.
  *

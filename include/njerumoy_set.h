@@ -1,25 +1,28 @@
 /* Njerumoy, with the set in one piece: a set's lists and its epoch year go together, so that who
  * lends one names no year beside it. njerumoy_published.h has the two published sets in this form.
  *
- * Each function here but njerumoy_lent only hands the members on, to the function of njerumoy.h that
- * has its name without `_with`, `_into` or `_at`. What njerumoy.h says of that one holds here too: its
- * answers, its refusals, and what the caller owes. These few lines are not proved; the tests in
- * bindings/c compare the two.
+ * Each function here but njerumoy_lent and njerumoy_lent_13 only hands the members on, to the function
+ * of njerumoy.h that has its name without `_with`, `_into` or `_at`; njerumoy_read_stored_into_13 to
+ * njerumoy_read_stored_either. What njerumoy.h says of that one holds here too: its answers, its
+ * refusals, and what the caller owes. These few lines are not proved; the tests in bindings/c compare
+ * the two.
  */
 #ifndef NJERUMOY_SET_H
 #define NJERUMOY_SET_H
 
 #include "njerumoy.h"
 
-/* A coefficient set: the year that its lists are of, the four lists, and the length of each. */
+/* A coefficient set: the year that its lists are of, the four lists, and the length of each. It is of
+ * degree 12 where all four are 90 long, and of degree 13 where all four are 104. */
 struct njerumoy_set {
     int32_t epoch_year;
     const float *g, *h, *g_dot, *h_dot;
     size_t g_length, h_length, g_dot_length, h_dot_length;
 };
 
-/* A set that owns its lists: where a coefficient file or a stored set is read into. Its year and its
- * lists are written by one call, all of them or none, so that a year never parts from its lists. */
+/* A set of degree 12 that owns its lists: where a coefficient file or a stored set is read into. Its
+ * year and its lists are written by one call, all of them or none, so that a year never parts from its
+ * lists. */
 struct njerumoy_owned_set {
     int32_t epoch_year;
     float g[NJERUMOY_LIST_LENGTH], h[NJERUMOY_LIST_LENGTH];
@@ -41,6 +44,22 @@ static inline uint32_t njerumoy_read_stored_into(struct njerumoy_owned_set *set,
                                 NJERUMOY_LIST_LENGTH, &set->epoch_year, entry, place);
 }
 
+/* One of degree 13. A stored set of degree 12 is refused by 23; then it can be read as above. */
+struct njerumoy_owned_set_13 {
+    int32_t epoch_year;
+    float g[NJERUMOY_LIST_LENGTH_13], h[NJERUMOY_LIST_LENGTH_13];
+    float g_dot[NJERUMOY_LIST_LENGTH_13], h_dot[NJERUMOY_LIST_LENGTH_13];
+};
+
+static inline uint32_t njerumoy_read_stored_into_13(struct njerumoy_owned_set_13 *set,
+                                                    const uint8_t *stored, size_t stored_length,
+                                                    size_t entry[2], size_t *place) {
+    return njerumoy_read_stored_either(stored, stored_length, set->g, NJERUMOY_LIST_LENGTH_13,
+                                       set->h, NJERUMOY_LIST_LENGTH_13, set->g_dot,
+                                       NJERUMOY_LIST_LENGTH_13, set->h_dot, NJERUMOY_LIST_LENGTH_13,
+                                       &set->epoch_year, entry, place);
+}
+
 /* An owned set as the calls below take it. It points into `set` and has the year of this moment:
  * after another set was read into `set`, lend it anew. */
 static inline struct njerumoy_set njerumoy_lent(const struct njerumoy_owned_set *set) {
@@ -51,11 +70,31 @@ static inline struct njerumoy_set njerumoy_lent(const struct njerumoy_owned_set 
     return lent;
 }
 
+static inline struct njerumoy_set njerumoy_lent_13(const struct njerumoy_owned_set_13 *set) {
+    const struct njerumoy_set lent = {
+        set->epoch_year,         set->g,
+        set->h,                  set->g_dot,
+        set->h_dot,              NJERUMOY_LIST_LENGTH_13,
+        NJERUMOY_LIST_LENGTH_13, NJERUMOY_LIST_LENGTH_13,
+        NJERUMOY_LIST_LENGTH_13,
+    };
+    return lent;
+}
+
 static inline uint32_t njerumoy_write_stored_with(const struct njerumoy_set *set, uint8_t *stored,
                                                   size_t stored_length, size_t entry[2]) {
     return njerumoy_write_stored(set->epoch_year, set->g, set->g_length, set->h, set->h_length,
                                  set->g_dot, set->g_dot_length, set->h_dot, set->h_dot_length,
                                  stored, stored_length, entry);
+}
+
+/* The same for a set of either degree. */
+static inline uint32_t njerumoy_write_stored_either_with(const struct njerumoy_set *set,
+                                                         uint8_t *stored, size_t stored_length,
+                                                         size_t entry[2]) {
+    return njerumoy_write_stored_either(set->epoch_year, set->g, set->g_length, set->h,
+                                        set->h_length, set->g_dot, set->g_dot_length, set->h_dot,
+                                        set->h_dot_length, stored, stored_length, entry);
 }
 
 /* Sine and cosine of one angle. */
@@ -117,6 +156,16 @@ static inline uint32_t njerumoy_field_stored_at(const uint8_t *stored, size_t st
     return njerumoy_field_stored(stored, stored_length, at.height, at.latitude.sine,
                                  at.latitude.cosine, at.longitude.sine, at.longitude.cosine, year,
                                  day_of_year, xyz, errors, entry, years, place);
+}
+
+static inline uint32_t njerumoy_field_stored_either_at(const uint8_t *stored, size_t stored_length,
+                                                       struct njerumoy_place at, int32_t year,
+                                                       int32_t day_of_year, float xyz[3],
+                                                       float errors[8], size_t entry[2],
+                                                       int32_t years[2], size_t *place) {
+    return njerumoy_field_stored_either(stored, stored_length, at.height, at.latitude.sine,
+                                        at.latitude.cosine, at.longitude.sine, at.longitude.cosine,
+                                        year, day_of_year, xyz, errors, entry, years, place);
 }
 
 static inline uint32_t njerumoy_allowance_with(const struct njerumoy_set *set,

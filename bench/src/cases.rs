@@ -3,6 +3,7 @@ use njerumoy::{published, Day, Pair, Set};
 use oracle::angles::DegreePlace;
 use oracle::entries;
 use oracle::models::model_by_epoch_year;
+use oracle::tables::N_COEFF_MAX;
 
 /// A published set, in the form of each side.
 pub struct Both {
@@ -39,6 +40,27 @@ pub fn sets() -> [Both; 2] {
     [(2020, published::WMM2020), (2025, published::WMM2025)].map(|(epoch, ours)| Both {
         ours,
         rust: entries::Set::of(model_by_epoch_year(epoch).expect("a published epoch")),
+    })
+}
+
+/// The same with a degree more. Its entries are of the size that they have on Earth.
+pub fn longer_sets() -> [Both; 2] {
+    let mut random = Random::new();
+    sets().map(|Both { mut rust, .. }| {
+        for (list, size) in rust.lists.iter_mut().zip([1.0, 1.0, 0.1, 0.1]) {
+            list.resize_with(N_COEFF_MAX, || random.between(-size, size) as f32);
+        }
+        // kept to the end of the program, as the published lists are
+        let [g, h, g_dot, h_dot] = rust.lists.clone().map(|list| &*list.leak());
+        let epoch_year = rust.epoch_year;
+        let ours = Set {
+            epoch_year,
+            g,
+            h,
+            g_dot,
+            h_dot,
+        };
+        Both { ours, rust }
     })
 }
 

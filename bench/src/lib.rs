@@ -1,5 +1,6 @@
-//! What the benchmark and the comparisons of files, of lists, of stored sets and of yearly rates share, and
-//! the timing of calls.
+//! What the benchmark and the comparisons of files, of lists, of stored sets, of yearly rates and of sets of
+//! degree 13 share, and the timing of calls.
+pub mod calls;
 pub mod kinds;
 pub mod listed;
 pub mod questions;

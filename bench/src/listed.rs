@@ -196,7 +196,7 @@ pub fn our_uncertainty_alone([x, y, z]: [f32; 3], epoch_year: i32) -> Answer {
 }
 
 /// The oracle's answer, written into the places by the rule of the C entries.
-fn answer<T>(result: Result<T, Refusal>, write: impl FnOnce(&mut Places, T)) -> Answer {
+pub(crate) fn answer<T>(result: Result<T, Refusal>, write: impl FnOnce(&mut Places, T)) -> Answer {
     let mut places = Places::unwritten();
     let number = match result {
         Ok(value) => {

@@ -9,7 +9,7 @@ mod storing;
 use bench::listed::{self, List};
 use bench::reading::{COF, LENGTH};
 use bench::timing::{print_head, row};
-use cases::{sets, Both, Components, FieldCase, Random, SumCase};
+use cases::{longer_sets, sets, Both, Components, FieldCase, Random, SumCase};
 use njerumoy::Field;
 use oracle::entries::{self, Place};
 use oracle::field::WarningZone;
@@ -207,6 +207,28 @@ fn yearly_rates(rounds: usize, fields: &[FieldCase], sets: &[Both]) -> bool {
     )
 }
 
+/// The rows of degree 13, on the cases of the rows Sum, general and Field.
+fn thirteen(rounds: usize, sums: &[SumCase], fields: &[FieldCase]) -> bool {
+    let sets = longer_sets();
+    let same = [
+        row(
+            "Sum, degree 13",
+            rounds,
+            sums,
+            |c| our_sum(c, &sets),
+            |c| rust_sum(c, &sets),
+        ),
+        row(
+            "Field, degree 13",
+            rounds,
+            fields,
+            |c| our_field(c, &sets),
+            |c| rust_field(c, &sets),
+        ),
+    ];
+    same.iter().all(|same| *same)
+}
+
 fn main() -> ExitCode {
     let rounds = match env::args().nth(1).map(|word| word.parse()) {
         None => ROUNDS,
@@ -247,6 +269,7 @@ fn main() -> ExitCode {
             |c| our_field(c, &sets),
             |c| rust_field(c, &sets),
         ),
+        thirteen(rounds, &general, &fields),
         yearly_rates(rounds, &fields, &sets),
         field_listed("Field, 2 records", 2, rounds, &fields, &sets),
         field_listed("Field, 20 records", 20, rounds, &fields, &sets),

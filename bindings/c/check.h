@@ -9,6 +9,7 @@
 #include "njerumoy_published.h"
 
 #define N NJERUMOY_LIST_LENGTH
+#define N_13 NJERUMOY_LIST_LENGTH_13
 #define COUNT(a) (sizeof(a) / sizeof *(a))
 
 static int checks, failures;

@@ -8,11 +8,12 @@
 
 static const double RADIAN = 0.017453292519943295769;
 
-/* A place, a day and a set, and all that a call is lent for its results. */
+/* A place, a day and a set, and all that a call is lent for its results. A list has room for a degree
+ * more. */
 struct field {
     float height, sin_phi, cos_phi, sin_lambda, cos_lambda;
     int32_t year, day, epoch;
-    float lists[4][N];
+    float lists[4][N_13];
     size_t lengths[4];
     float xyz[3], errors[8], allowances[3], rates[7];
     size_t entry[2];
@@ -31,10 +32,11 @@ static inline struct field question(void) {
     q.year = 2025;
     q.day = 1;
     q.epoch = 2025;
-    memcpy(q.lists[0], njerumoy_wmm2025_g, sizeof q.lists[0]);
-    memcpy(q.lists[1], njerumoy_wmm2025_h, sizeof q.lists[1]);
-    memcpy(q.lists[2], njerumoy_wmm2025_g_dot, sizeof q.lists[2]);
-    memcpy(q.lists[3], njerumoy_wmm2025_h_dot, sizeof q.lists[3]);
+    memset(q.lists, 0, sizeof q.lists);
+    memcpy(q.lists[0], njerumoy_wmm2025_g, sizeof njerumoy_wmm2025_g);
+    memcpy(q.lists[1], njerumoy_wmm2025_h, sizeof njerumoy_wmm2025_h);
+    memcpy(q.lists[2], njerumoy_wmm2025_g_dot, sizeof njerumoy_wmm2025_g_dot);
+    memcpy(q.lists[3], njerumoy_wmm2025_h_dot, sizeof njerumoy_wmm2025_h_dot);
     for (int i = 0; i < 4; i++) q.lengths[i] = N;
     for (int i = 0; i < 3; i++) q.xyz[i] = q.allowances[i] = HELD;
     for (int i = 0; i < 8; i++) q.errors[i] = HELD;
@@ -44,7 +46,10 @@ static inline struct field question(void) {
     return q;
 }
 
-/* Alters a question so that Field refuses it by one of its own numbers, 1 to 8. */
+/* Field's own refusals, in their order. */
+static const uint32_t FIELDS_OWN[] = {1, 2, 3, 4, 5, 6, 23, 7, 8};
+
+/* Alters a question so that Field refuses it by one of them. */
 static inline void refuse_by(struct field *q, uint32_t number) {
     switch (number) {
         case NJERUMOY_HEIGHT: q->height = 850001.0f; break;
@@ -53,6 +58,7 @@ static inline void refuse_by(struct field *q, uint32_t number) {
         case NJERUMOY_DAY_OF_YEAR: q->day = 366; break;
         case NJERUMOY_EPOCH_YEAR: q->year = 2030; break;
         case NJERUMOY_LENGTH: q->lengths[2] = 89; break;
+        case NJERUMOY_DEGREE: q->lengths[1] = N_13; break;
         case NJERUMOY_COEFFICIENT: q->lists[3][89] = -4097.0f; break;
         default: q->epoch = 2020; break;
     }

@@ -4,10 +4,10 @@
 
 #include "check.h"
 
-/* A list has one float more than a set, for a length that is too long. `where` is lent for the line
- * of a coefficient file, or for the place in a stored set. */
+/* A list has more floats than a set, for a length that is too long. `where` is lent for the line of a
+ * coefficient file, or for the place in a stored set. */
 struct reading {
-    float lists[4][N + 1];
+    float lists[4][N_13];
     size_t lengths[4];
     int32_t epoch_year;
     size_t entry[2], where;
@@ -17,7 +17,7 @@ static inline struct reading held(void) {
     struct reading r;
     for (int list = 0; list < 4; list++) {
         r.lengths[list] = N;
-        for (int i = 0; i <= N; i++) r.lists[list][i] = HELD;
+        for (int i = 0; i < N_13; i++) r.lists[list][i] = HELD;
     }
     r.epoch_year = HELD_YEAR;
     r.entry[0] = r.entry[1] = r.where = HELD_SIZE;

@@ -3,7 +3,8 @@
  * is asked in both forms, with loose lists and with the set in one piece, and all that is told must
  * be the same, bit for bit. tools/test-library runs it. test_angles.c has angles in degrees,
  * test_cof.c the coefficient files, test_rates.c the yearly rates, test_records.c the lent error
- * records, and test_stored.c and test_stored_field.c the stored sets. */
+ * records, test_stored.c and test_stored_field.c the stored sets, and test_thirteen.c the lists of
+ * degree 13. */
 #include "question.h"
 
 static uint32_t ask(struct field *q) {
@@ -81,6 +82,8 @@ static void test_field_refusals(void) {
     q.lists[0][0] = NAN;
     CHECK(refused(&q, 7) && q.entry[0] == 0 && q.entry[1] == 0);
     q.entry[0] = q.entry[1] = HELD_SIZE;
+    q.lengths[3] = N_13;
+    CHECK(refused(&q, 23));
     q.lengths[2] = 89;
     CHECK(refused(&q, 6));
     q.lengths[2] = 0;
@@ -157,6 +160,11 @@ static void test_places_apart(void) {
     CHECK(ask_sum(&q, 0.9375f, 5.5f) == 11);
     q.lists[2][7] = NAN;
     CHECK(ask_sum(&q, 0.9375f, 2.5f) == 7 && q.entry[0] == 2 && q.entry[1] == 7);
+    q.lengths[1] = N_13;
+    CHECK(ask_sum(&q, 0.9375f, 2.5f) == 23);
+    q.lengths[0] = 91;
+    CHECK(ask_sum(&q, 0.9375f, 2.5f) == 6);
+    CHECK(ask_sum(&q, 0.9375f, 5.5f) == 11);
 }
 
 /* Each list by itself too short. */

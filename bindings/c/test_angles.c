@@ -271,6 +271,8 @@ static void test_order(void) {
     q.lists[3][89] = -4097.0f;
     CHECK(refused(&q, 80.0f, 0.0f, NJERUMOY_COEFFICIENT) && q.entry[0] == 3 && q.entry[1] == 89);
     q.entry[0] = q.entry[1] = HELD_SIZE;
+    q.lengths[3] = N_13;
+    CHECK(refused(&q, 80.0f, 0.0f, NJERUMOY_DEGREE));
     q.lengths[2] = 89;
     CHECK(refused(&q, 80.0f, 0.0f, NJERUMOY_LENGTH));
     q.epoch = 2021;

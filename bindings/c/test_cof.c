@@ -107,9 +107,9 @@ static void test_published(void) {
 /* Refusal 6 comes before any line is looked at. */
 static void test_lengths(void) {
     const struct text empty = of_bytes("");
-    const size_t lengths[3] = {0, N - 1, N + 1};
+    const size_t lengths[] = {0, N - 1, N + 1, N_13};
     for (int list = 0; list < 4; list++) {
-        for (int i = 0; i < 3; i++) {
+        for (size_t i = 0; i < COUNT(lengths); i++) {
             struct reading r = held();
             r.lengths[list] = lengths[i];
             CHECK(ask(&file_2025, &r) == NJERUMOY_LENGTH && kept(&r, NJERUMOY_LENGTH));

@@ -312,7 +312,8 @@ static int refused_alike(struct field q, uint32_t number) {
 /* Each by itself, and each before all those after it and before 21. */
 static void test_refusals(void) {
     struct field behind = without_set();
-    for (uint32_t number = 8; number >= 1; number--) {
+    for (size_t k = COUNT(FIELDS_OWN); k-- > 0;) {
+        const uint32_t number = FIELDS_OWN[k];
         struct field q = question();
         refuse_by(&q, number);
         refuse_by(&behind, number);

@@ -245,7 +245,8 @@ static void test_order(void) {
     const record next = made(2030, 1.0f);
     const struct records lists[4] = {list_of_one(OF_2025), empty(), list_of_one(next),
                                      list_of_one(with_figure(OF_2025, 7, NAN))};
-    for (uint32_t number = 1; number <= 8; number++) {
+    for (size_t k = 0; k < COUNT(FIELDS_OWN); k++) {
+        const uint32_t number = FIELDS_OWN[k];
         for (int i = 0; i < 4; i++) {
             struct field q = question();
             refuse_by(&q, number);

@@ -159,9 +159,9 @@ static void test_alignment(void) {
 /* Refusal 6 comes before any byte is looked at. */
 static void test_output_lists(void) {
     const struct bytes good = bytes_of_2025(), none = held_bytes(0);
-    const size_t lengths[3] = {0, N - 1, N + 1};
+    const size_t lengths[] = {0, N - 1, N + 1, N_13};
     for (int list = 0; list < 4; list++) {
-        for (int i = 0; i < 3; i++) {
+        for (size_t i = 0; i < COUNT(lengths); i++) {
             struct reading r = held();
             r.lengths[list] = lengths[i];
             CHECK(ask_read(&good, &r) == NJERUMOY_LENGTH && kept(&r, NJERUMOY_LENGTH));
@@ -268,7 +268,7 @@ static void test_no_room(void) {
 
 /* From the last refusal of writing to the first: each hides those after it. */
 static void test_order_of_writing(void) {
-    const size_t lengths[3] = {0, N - 1, N + 1};
+    const size_t lengths[] = {0, N - 1, N + 1, N_13};
     struct reading r = reading_of(&NJERUMOY_WMM2025);
     r.epoch_year = -1;
     struct njerumoy_set set = set_in(&r);
@@ -280,7 +280,7 @@ static void test_order_of_writing(void) {
         CHECK(not_written_entry(&set, ROOM, NJERUMOY_COEFFICIENT, i, 7));
     }
     for (int list = 0; list < 4; list++) {
-        for (int i = 0; i < 3; i++) {
+        for (size_t i = 0; i < COUNT(lengths); i++) {
             struct reading b = r;
             b.lengths[list] = lengths[i];
             set = set_in(&b);

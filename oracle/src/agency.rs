@@ -2,7 +2,7 @@
 //! README.md has the whole rule.
 use crate::entries::Refusal;
 use crate::reading::{read_into, Found};
-use crate::synthesis::{N_COEFF, N_MAX};
+use crate::tables::{N_COEFF, WMM_MAX};
 use std::str;
 
 /// The most digits that a number has, before and after its point together.
@@ -126,7 +126,7 @@ fn read_lines(text: &[u8]) -> Result<Found, Refusal> {
     let epoch_year = lines.header()?;
     let mut lists = [[0.0; N_COEFF]; 4];
     let mut index = 0;
-    for degree in 1..=N_MAX {
+    for degree in 1..=WMM_MAX {
         for order in 0..=degree {
             let numbers = lines.coefficients(degree, order)?;
             for (list, entry) in lists.iter_mut().zip(numbers) {

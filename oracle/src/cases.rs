@@ -7,8 +7,11 @@ mod damage;
 pub mod decimals;
 mod degrees;
 mod files;
+mod igrf;
+pub mod igrf_sets;
 mod listed;
 mod lists;
+mod longer;
 mod pairs;
 mod places;
 pub mod rates;
@@ -20,9 +23,11 @@ mod strengths;
 mod values;
 
 use crate::format::{put_case, Case};
+use crate::profile::InProfile;
 use crate::replay::Replay;
 pub use decimals::planned_words;
 pub use listed::TURNS;
+use lists::DEGREE_12;
 pub use pairs::{AXES, LATITUDES, LONGITUDES, ROUND_LATITUDES};
 use places::DAYS;
 pub use rng::Rng;
@@ -32,7 +37,7 @@ use strengths::{STRENGTHS, WRAPS};
 use values::Pools;
 
 /// What a case asks for. `Bad` is a damaged line: most of them cannot be read. `South` is a line of GV
-/// next to due south or to zero.
+/// next to due south or to zero. `Sum13` and the like are lines of SUM and the like with sets of degree 13.
 #[derive(Copy, Clone, Debug, PartialEq)]
 pub enum Kind {
     Sum,
@@ -55,6 +60,13 @@ pub enum Kind {
     Sread,
     Swrite,
     Rates,
+    Sum13,
+    Field13,
+    Flist13,
+    Fdeg13,
+    Rates13,
+    Igrf,
+    Irates,
 }
 
 /// Every kind of a list of all kinds, its name on the command line, and its share of a mixed list. A
@@ -73,9 +85,9 @@ pub const KINDS: [(Kind, &str, usize); 10] = [
 ];
 
 /// The kinds that come only where they are named: those with lists of error records, those with
-/// angles in degrees, those for due south, those with stored sets, and those of yearly rates. So a list
-/// of all kinds from a seed is what it was before there were such lines.
-pub const NAMED_KINDS: [(Kind, &str, usize); 10] = [
+/// angles in degrees, those for due south, those with stored sets, those of yearly rates, those of
+/// degree 13, and those of the IGRF profile. So a list of all kinds from a seed is what it was before there were such lines.
+pub const NAMED_KINDS: [(Kind, &str, usize); 17] = [
     (Kind::Flist, "FLIST", 60),
     (Kind::Ulist, "ULIST", 60),
     (Kind::Trig, "TRIG", 60),
@@ -86,6 +98,13 @@ pub const NAMED_KINDS: [(Kind, &str, usize); 10] = [
     (Kind::Sread, "SREAD", 60),
     (Kind::Swrite, "SWRITE", 60),
     (Kind::Rates, "RATES", 60),
+    (Kind::Sum13, "SUM13", 60),
+    (Kind::Field13, "FIELD13", 60),
+    (Kind::Flist13, "FLIST13", 60),
+    (Kind::Fdeg13, "FDEG13", 60),
+    (Kind::Rates13, "RATES13", 60),
+    (Kind::Igrf, "IGRF", 60),
+    (Kind::Irates, "IRATES", 60),
 ];
 
 pub struct Generator {
@@ -122,6 +141,10 @@ pub struct Generator {
     degree_walks: degrees::Walks,
     stored_walks: stored::Walks,
     rates_walks: rates::Walks,
+    /// Whether sets of degree 13 are asked for, and the walk over the special ones.
+    longer: bool,
+    longer_walk: Walk,
+    igrf_walks: igrf::Walks,
 }
 
 impl Generator {
@@ -163,9 +186,13 @@ impl Generator {
         ];
         let [height, _, _, year, day] = field_ways;
         let degree_walks = degrees::Walks::new(seed, height, year, day);
+        // numbers of its own: those of the other walks stay as they are
+        let mut longer_rng = Rng::new(seed.rotate_left(16));
+        let longer_sets = longer::SETS + pools.epoch_year.len();
+        let igrf_walks = igrf::Walks::new(seed, height, day);
         Generator {
             walks: totals.map(|total| Walk::new(total, &mut rng)),
-            set_walk: Walk::new(lists::SETS + pools.epoch_year.len(), &mut rng),
+            set_walk: Walk::new(DEGREE_12.sets() + pools.epoch_year.len(), &mut rng),
             sum_singles: Walk::new(singles(&sum_ways), &mut rng),
             field_singles: Walk::new(singles(&field_ways), &mut rng),
             day_walks: [DAYS; 2].map(|total| Walk::new(total, &mut rng)),
@@ -186,6 +213,9 @@ impl Generator {
             degree_walks,
             stored_walks: stored::Walks::new(seed),
             rates_walks: rates::Walks::new(seed, &field_ways),
+            longer: false,
+            longer_walk: Walk::new(longer_sets, &mut longer_rng),
+            igrf_walks,
         }
     }
 
@@ -194,6 +224,7 @@ impl Generator {
         if NAMED_KINDS.iter().any(|named| named.0 == kind) {
             return self.named_line(kind, out);
         }
+        self.longer = false;
         let place = self.walks[kind as usize].turn(&mut self.rng);
         let case = match kind {
             Kind::Sum => self.sum_case(place, out),
@@ -212,21 +243,38 @@ impl Generator {
     fn named_line(&mut self, kind: Kind, out: &mut Vec<u8>) {
         if self.rng.once_in(32) {
             return damage::damaged_line(self, out, |generator, out| {
+                if [Kind::Igrf, Kind::Irates].contains(&kind) && generator.rng.once_in(4) {
+                    return damage::short_second_set(&mut generator.rng);
+                }
                 let mut line = Vec::new();
-                put_case(&mut line, &generator.named_case(kind, out));
+                put_case(&mut line, &generator.question(kind, out));
                 line
             });
         }
-        let case = self.named_case(kind, out);
+        let case = self.question(kind, out);
         self.replay.case(&case, out);
     }
 
-    fn named_case(&mut self, kind: Kind, out: &mut Vec<u8>) -> Case<'static> {
+    /// The case of a kind that comes only where it is named. Before it stands a SET line where another
+    /// set's turn has come.
+    pub fn question(&mut self, kind: Kind, out: &mut Vec<u8>) -> Case<'static> {
+        let (kind, longer) = longer::asked(kind);
+        self.longer = longer;
         match kind {
+            Kind::Sum => {
+                let place = self.walks[kind as usize].turn(&mut self.rng);
+                self.sum_case(place, out)
+            }
+            Kind::Field => {
+                let place = self.walks[kind as usize].turn(&mut self.rng);
+                self.field_case(place, out)
+            }
             Kind::Flist | Kind::Ulist => Case::Listed(self.listed(kind, out)),
             Kind::South => self.south_case(),
             Kind::Sread | Kind::Swrite => self.stored_case(kind, out),
             Kind::Rates => Case::Rates(self.rates_place(out)),
+            Kind::Igrf => Case::InProfile(InProfile::Field(self.profile_place(kind, out))),
+            Kind::Irates => Case::InProfile(InProfile::Rates(self.profile_place(kind, out))),
             _ => Case::InDegrees(self.in_degrees(kind, out)),
         }
     }

@@ -1,7 +1,8 @@
 //! The public entries, with document 01's refusals in document 01's order.
+use crate::coefficients::{check_lists, Lists};
 use crate::field::{
-    self, one_south, synthesize_geocentric_xyz, Geocentric, GeomagneticField, WarningZone,
-    MAX_HEIGHT_KM, MAX_HEIGHT_M, MAX_LATITUDE_DEG, MAX_LONGITUDE_DEG, MIN_HEIGHT_KM, MIN_HEIGHT_M,
+    self, one_south, synthesize_lists, Geocentric, GeomagneticField, WarningZone, MAX_HEIGHT_KM,
+    MAX_HEIGHT_M, MAX_LATITUDE_DEG, MAX_LONGITUDE_DEG, MIN_HEIGHT_KM, MIN_HEIGHT_M,
     MIN_LATITUDE_DEG, MIN_LONGITUDE_DEG,
 };
 use crate::models::{
@@ -9,7 +10,6 @@ use crate::models::{
     WmmModel, BUNDLED_MODELS_VALIDITY_RANGE, WMM_ERROR_MODELS,
 };
 pub use crate::refusal::Refusal;
-use crate::synthesis::N_COEFF;
 
 /// A lent set: an epoch year and four lists of any length, g, h, g_dot, h_dot.
 #[derive(Clone, Debug, Default, PartialEq)]
@@ -68,27 +68,7 @@ fn outside_of_validity_range() -> Refusal {
     Refusal::EpochYear { first, last }
 }
 
-/// Refusal 6, then refusal 7 at the first bad place. Gives the four lists, each 90 long.
-pub fn check_lists(lists: [&[f32]; 4]) -> Result<[&[f32; N_COEFF]; 4], Refusal> {
-    let whole = |i: usize| <&[f32; N_COEFF]>::try_from(lists[i]).map_err(|_| Refusal::Length);
-    let whole = [whole(0)?, whole(1)?, whole(2)?, whole(3)?];
-    check_entries(whole)?;
-    Ok(whole)
-}
-
-/// Refusal 7 at the first bad place, by list and then by index.
-pub fn check_entries(lists: [&[f32; N_COEFF]; 4]) -> Result<(), Refusal> {
-    for (list, entries) in lists.into_iter().enumerate() {
-        for (index, entry) in entries.iter().enumerate() {
-            if !within(*entry, -CAPS[list], CAPS[list]) {
-                return Err(Refusal::Coefficient { list, index });
-            }
-        }
-    }
-    Ok(())
-}
-
-/// Field: X, Y, Z in nT with the error record. Refusals 1, 2, 3, 4, 5, 6, 7, 8.
+/// Field: X, Y, Z in nT with the error record. Refusals 1, 2, 3, 4, 5, 6, 23, 7, 8.
 #[allow(clippy::too_many_arguments)]
 pub fn field(
     height: f32,
@@ -126,8 +106,7 @@ pub struct Place {
 
 /// What Field's checks give where none refuses.
 pub struct Accepted<'a> {
-    /// g, h, g_dot, h_dot.
-    pub lists: [&'a [f32; N_COEFF]; 4],
+    pub lists: Lists<'a>,
     /// Years from the epoch to the day.
     pub time_delta: f32,
     /// The built-in record of the epoch.
@@ -146,7 +125,7 @@ impl Place {
         Ok(accepted.field(&self.geocentric()))
     }
 
-    /// Field's checks. Refusals 1, 2, 3, 4, 5, 6, 7, 8.
+    /// Field's checks. Refusals 1, 2, 3, 4, 5, 6, 23, 7, 8.
     // inlined, since Field is timed: the checks cost what they would in its own body
     #[inline]
     pub fn accepted<'a>(
@@ -154,18 +133,7 @@ impl Place {
         set_year: i32,
         lists: [&'a [f32]; 4],
     ) -> Result<Accepted<'a>, Refusal> {
-        if !within(self.height, MIN_HEIGHT_M, MAX_HEIGHT_M) {
-            return Err(Refusal::Height {
-                min_km: MIN_HEIGHT_KM,
-                max_km: MAX_HEIGHT_KM,
-            });
-        }
-        if off_the_circle(self.sin_phi, self.cos_phi) || self.cos_phi < -CIRCLE_SLACK {
-            return Err(Refusal::Latitude);
-        }
-        if off_the_circle(self.sin_lambda, self.cos_lambda) {
-            return Err(Refusal::Longitude);
-        }
+        self.check_place()?;
         let (epoch_year, time_delta) = epoch(self.year, self.day)?;
         if error_model_by_epoch_year(set_year).is_none() {
             return Err(outside_of_validity_range());
@@ -184,6 +152,24 @@ impl Place {
             time_delta,
             error_model,
         })
+    }
+
+    /// Refusals 1, 2, 3.
+    #[inline(always)]
+    pub fn check_place(&self) -> Result<(), Refusal> {
+        if !within(self.height, MIN_HEIGHT_M, MAX_HEIGHT_M) {
+            return Err(Refusal::Height {
+                min_km: MIN_HEIGHT_KM,
+                max_km: MAX_HEIGHT_KM,
+            });
+        }
+        if off_the_circle(self.sin_phi, self.cos_phi) || self.cos_phi < -CIRCLE_SLACK {
+            return Err(Refusal::Latitude);
+        }
+        if off_the_circle(self.sin_lambda, self.cos_lambda) {
+            return Err(Refusal::Longitude);
+        }
+        Ok(())
     }
 
     /// The geocentric step, for a place that is not refused.
@@ -211,7 +197,7 @@ impl Accepted<'_> {
     }
 }
 
-/// Sum: X', Y, Z' in the crate's sign. Refusals 9, 3, 10, 11, 6, 7.
+/// Sum: X', Y, Z' in the crate's sign. Refusals 9, 3, 10, 11, 6, 23, 7.
 pub fn sum(
     cos_theta: f32,
     sin_theta: f32,
@@ -233,9 +219,9 @@ pub fn sum(
     if !within(offset, 0.0, MAX_OFFSET) {
         return Err(Refusal::Offset);
     }
-    let [g, h, g_dot, h_dot] = check_lists(lists.each_ref().map(Vec::as_slice))?;
-    Ok(synthesize_geocentric_xyz(
-        cos_theta, sin_theta, sin_lambda, cos_lambda, ratio, g, h, g_dot, h_dot, offset,
+    let lists = check_lists(lists.each_ref().map(Vec::as_slice))?;
+    Ok(synthesize_lists(
+        cos_theta, sin_theta, sin_lambda, cos_lambda, ratio, lists, offset,
     ))
 }
 

@@ -2,8 +2,10 @@
 //! Sines and cosines are lent, and the unit conversions are taken out: strengths stay in nT and
 //! angles in degrees. `f32::sqrt` is correctly rounded, as `sqrtf` is. The source's `powi(2)` is
 //! one product.
+use crate::coefficients::Lists;
 use crate::models::WmmErrorModel;
-use crate::synthesis::{sin_cos_m_lambda, synthesize_near_pole, synthesize_xyz_prime, N_COEFF};
+use crate::synthesis::{sin_cos_m_lambda, synthesize_near_pole, synthesize_xyz_prime};
+use crate::tables::{M_LEN, M_LEN_MAX, N_COEFF, N_COEFF_MAX};
 
 /// The field at a place and day.
 #[derive(Copy, Clone, Debug, PartialEq)]
@@ -64,28 +66,52 @@ pub fn geodetic_to_geocentric(height: f32, sin_phi: f32, cos_phi: f32) -> (f32, 
 /// X', east Y and Z' in the crate's sign. Near the poles Y comes from the Q recurrence, and is not
 /// divided by sin theta.
 #[allow(clippy::too_many_arguments)]
-pub fn synthesize_geocentric_xyz(
+fn synthesize_geocentric_xyz<const M: usize, const LENGTH: usize>(
     cos_theta: f32,
     sin_theta: f32,
     sin_lambda: f32,
     cos_lambda: f32,
     ratio: f32,
-    g: &[f32; N_COEFF],
-    h: &[f32; N_COEFF],
-    g_dot: &[f32; N_COEFF],
-    h_dot: &[f32; N_COEFF],
+    g: &[f32; LENGTH],
+    h: &[f32; LENGTH],
+    g_dot: &[f32; LENGTH],
+    h_dot: &[f32; LENGTH],
     time_delta: f32,
 ) -> (f32, f32, f32) {
     if sin_theta.abs() < NEAR_POLE_SIN_THETA_MIN {
-        synthesize_near_pole(
+        synthesize_near_pole::<M, LENGTH>(
             cos_theta, sin_theta, sin_lambda, cos_lambda, ratio, g, h, g_dot, h_dot, time_delta,
         )
     } else {
-        let (sin_m, cos_m) = sin_cos_m_lambda(sin_lambda, cos_lambda);
+        let (sin_m, cos_m) = sin_cos_m_lambda::<M>(sin_lambda, cos_lambda);
         let (x_prime, y_prime, z_prime) = synthesize_xyz_prime(
             cos_theta, sin_theta, &sin_m, &cos_m, ratio, g, h, g_dot, h_dot, time_delta,
         );
         (x_prime, y_prime / sin_theta, z_prime)
+    }
+}
+
+/// The same by the degree of the lists.
+// inlined, since Sum and Field are timed
+#[inline]
+pub fn synthesize_lists(
+    cos_theta: f32,
+    sin_theta: f32,
+    sin_lambda: f32,
+    cos_lambda: f32,
+    ratio: f32,
+    lists: Lists,
+    time_delta: f32,
+) -> (f32, f32, f32) {
+    match lists {
+        Lists::Degree12([g, h, g_dot, h_dot]) => synthesize_geocentric_xyz::<M_LEN, N_COEFF>(
+            cos_theta, sin_theta, sin_lambda, cos_lambda, ratio, g, h, g_dot, h_dot, time_delta,
+        ),
+        Lists::Degree13([g, h, g_dot, h_dot]) => {
+            synthesize_geocentric_xyz::<M_LEN_MAX, N_COEFF_MAX>(
+                cos_theta, sin_theta, sin_lambda, cos_lambda, ratio, g, h, g_dot, h_dot, time_delta,
+            )
+        }
     }
 }
 
@@ -137,25 +163,18 @@ impl Geocentric {
         self.sin_theta
     }
 
-    /// The steps after that one, with the offset lent: X, Y and Z of the lists g, h, g_dot, h_dot.
+    /// The steps after that one, with the offset lent: X, Y and Z of the lists.
     // inlined, since Field is timed
     #[inline]
-    pub fn field_at_offset(
-        &self,
-        [g, h, g_dot, h_dot]: [&[f32; N_COEFF]; 4],
-        time_delta: f32,
-    ) -> (f32, f32, f32) {
+    pub fn field_at_offset(&self, lists: Lists, time_delta: f32) -> (f32, f32, f32) {
         let (cos_theta, sin_theta) = (self.cos_theta, self.sin_theta);
-        let (x_prime, y, z_prime) = synthesize_geocentric_xyz(
+        let (x_prime, y, z_prime) = synthesize_lists(
             cos_theta,
             sin_theta,
             self.sin_lambda,
             self.cos_lambda,
             self.ratio,
-            g,
-            h,
-            g_dot,
-            h_dot,
+            lists,
             time_delta,
         );
         let (sin_phi, cos_phi) = (self.sin_phi, self.cos_phi);

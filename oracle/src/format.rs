@@ -1,8 +1,9 @@
 //! The case lines: reading and writing. README.md has the whole rule.
 //! A float is the 8 hex digits of its bits. Years, days, epochs and counts are decimal.
 use crate::degrees::InDegrees;
-use crate::entries::{Place, Refusal, Set};
+use crate::entries::{Place, Set};
 use crate::listed::Listed;
+use crate::profile::InProfile;
 
 /// The mark between a question and its answer.
 pub const MARK: &[u8] = b" = ";
@@ -72,6 +73,8 @@ pub enum Case<'a> {
     Listed(Listed),
     /// TRIG, DECL, DIR or FDEG.
     InDegrees(InDegrees),
+    /// IGRF or IRATES.
+    InProfile(InProfile),
 }
 
 /// The words of a line. Exactly one space stands between two words.
@@ -235,6 +238,8 @@ pub fn parse_case(question: &[u8]) -> Option<Case<'_>> {
         },
         b"FLIST" => Case::Listed(Listed::field(&mut words)?),
         b"ULIST" => Case::Listed(Listed::uncertainty(&mut words)?),
+        b"IGRF" => Case::InProfile(InProfile::Field(words.place()?)),
+        b"IRATES" => Case::InProfile(InProfile::Rates(words.place()?)),
         name => Case::InDegrees(InDegrees::read(name, &mut words)?),
     };
     words.end(case)
@@ -242,8 +247,17 @@ pub fn parse_case(question: &[u8]) -> Option<Case<'_>> {
 
 /// Reads a SET line. It has no mark.
 pub fn parse_set(line: &[u8]) -> Option<Set> {
+    parse_set_by(b"SET", line)
+}
+
+/// Reads a SET2 line, the same by its other name.
+pub fn parse_second_set(line: &[u8]) -> Option<Set> {
+    parse_set_by(b"SET2", line)
+}
+
+fn parse_set_by(name: &[u8], line: &[u8]) -> Option<Set> {
     let mut words = Words::of(line);
-    if words.word()? != b"SET" {
+    if words.word()? != name {
         return None;
     }
     let set = Set {
@@ -337,6 +351,7 @@ pub fn put_case(out: &mut Vec<u8>, case: &Case) {
         }
         Case::Listed(ref listed) => listed.put(out),
         Case::InDegrees(asked) => asked.put(out),
+        Case::InProfile(asked) => asked.put(out),
     }
 }
 
@@ -356,36 +371,19 @@ fn put_text(out: &mut Vec<u8>, name: &[u8], text: &[u8]) {
 
 /// Writes a SET line, with no newline.
 pub fn put_set(out: &mut Vec<u8>, set: &Set) {
-    out.extend_from_slice(b"SET");
+    put_set_by(out, b"SET", set);
+}
+
+/// Writes a SET2 line, with no newline.
+pub fn put_second_set(out: &mut Vec<u8>, set: &Set) {
+    put_set_by(out, b"SET2", set);
+}
+
+fn put_set_by(out: &mut Vec<u8>, name: &[u8], set: &Set) {
+    out.extend_from_slice(name);
     put_int(out, set.epoch_year);
     for list in &set.lists {
         put_int(out, list.len() as i32);
         put_floats(out, list);
-    }
-}
-
-/// Writes a refusal: its number, then what it carries.
-pub fn put_refusal(out: &mut Vec<u8>, refusal: &Refusal) {
-    out.extend_from_slice(refusal.number().to_string().as_bytes());
-    match *refusal {
-        Refusal::Height { min_km, max_km } => put_floats(out, &[min_km, max_km]),
-        Refusal::EpochYear { first, last } => {
-            for part in [first.0, first.1, last.0, last.1] {
-                put_int(out, part);
-            }
-        }
-        Refusal::Coefficient { list, index } => {
-            put_int(out, list as i32);
-            put_int(out, index as i32);
-        }
-        Refusal::OtherEpoch { of_day, of_set } => {
-            put_int(out, of_day);
-            put_int(out, of_set);
-        }
-        Refusal::Malformed { line } | Refusal::OutOfOrder { line } => put_int(out, line as i32),
-        Refusal::WrongTag { place }
-        | Refusal::WrongLength { place }
-        | Refusal::WrongEnd { place } => put_int(out, place as i32),
-        _ => {}
     }
 }

@@ -1,6 +1,6 @@
 //! The published sets as files, in the agency's layout, and the bytes that spoil them in tests.
 use crate::models::{model_by_epoch_year, WmmModel};
-use crate::synthesis::N_MAX;
+use crate::tables::WMM_MAX;
 
 /// The bytes that take the place of another in a spoilt file.
 pub const SPOILING: [u8; 12] = *b"09-+.e \t\r\n\0\xff";
@@ -29,7 +29,7 @@ pub fn published_file(epoch_year: i32) -> Option<Vec<u8>> {
 fn coefficient_lines(model: &WmmModel) -> String {
     let mut text = String::new();
     let mut index = 0;
-    for degree in 1..=N_MAX {
+    for degree in 1..=WMM_MAX {
         for order in 0..=degree {
             let (g, h) = (model.g[index], model.h[index]);
             let (g_dot, h_dot) = (model.g_dot[index], model.h_dot[index]);

@@ -2,15 +2,18 @@
 pub mod agency;
 pub mod angles;
 pub mod cases;
+pub mod coefficients;
 pub mod degrees;
 pub mod direction;
 pub mod entries;
 pub mod field;
 pub mod format;
+pub mod igrf;
 pub mod layout;
 pub mod listed;
 pub mod machine;
 pub mod models;
+pub mod profile;
 pub mod published;
 pub mod rates;
 pub mod reading;
@@ -22,6 +25,7 @@ pub mod sets;
 pub mod south;
 pub mod stored;
 pub mod synthesis;
+pub mod tables;
 #[cfg(test)]
 mod tests;
 pub mod trig;

@@ -11,7 +11,8 @@ oracle answer                        answers the case lines of standard input
 oracle cases SEED COUNT [KIND ...]   writes COUNT case lines with their answers
                                      (SUM FIELD EPOCH STR GV SQRT BAD DEC WHOLE COF; none named: all
                                      of these; and FLIST ULIST TRIG DECL DIR FDEG SOUTH SREAD SWRITE
-                                     RATES, where they are named)
+                                     RATES SUM13 FIELD13 FLIST13 FDEG13 RATES13 IGRF IRATES, where they are
+                                     named)
 oracle south                         counts the answered GV lines of standard input, those that are
                                      not as the crate has them, and of these those that are -180
                                      there and 180 here

@@ -1,7 +1,7 @@
 //! Years, epochs and error records, as in the crate's `src/wmm_models.rs`. A date is a year and a
 //! day of that year, each an i32. Every i32 year has a length, by the Gregorian rule.
 use crate::sets::WMM_MODELS;
-use crate::synthesis::N_COEFF;
+use crate::tables::N_COEFF;
 
 const NUMBER_OF_MODELS: usize = WMM_MODELS.len();
 /// Years from one epoch to the next.

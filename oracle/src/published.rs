@@ -1,5 +1,6 @@
 //! The published test values through the oracle. A row: model, date, height [km], latitude and
 //! longitude [degrees], D, I [degrees], H, X, Y, Z, F [nT].
+use crate::coefficients::Lists;
 use crate::entries::{field, Set};
 use crate::field::{Geocentric, GeomagneticField};
 use crate::format::put_set;
@@ -69,7 +70,7 @@ fn field_of(row: &Row) -> Option<GeomagneticField> {
     }
     let offset = (row.date - f64::from(row.model)) as f32;
     let there = Geocentric::of(height, sin_phi, cos_phi, sin_lambda, cos_lambda);
-    let lists = [&model.g, &model.h, &model.g_dot, &model.h_dot];
+    let lists = Lists::Degree12([&model.g, &model.h, &model.g_dot, &model.h_dot]);
     let (x, y, z) = there.field_at_offset(lists, offset);
     let error_model = *error_model_by_epoch_year(row.model)?;
     Some(GeomagneticField {

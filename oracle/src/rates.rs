@@ -57,14 +57,14 @@ impl FieldAndRates {
 }
 
 /// Rates: the yearly change of X, Y and Z [nT/year], of declination and inclination [degrees/year], and
-/// of H and F [nT/year]. Refusals 1 to 8, as Field has them, then 21: H or F is zero.
+/// of H and F [nT/year]. Field's refusals, then 21: H or F is zero.
 pub fn rates(place: &Place, set: &Set) -> Result<[f32; 7], Refusal> {
     let accepted = place.accepted(set.epoch_year, set.slices())?;
     let there = place.geocentric();
     let field = accepted.field(&there);
     // the rates as the main field, at offset zero
-    let [_, _, g_dot, h_dot] = accepted.lists;
-    let (x_rate, y_rate, z_rate) = there.field_at_offset([g_dot, h_dot, g_dot, h_dot], 0.0);
+    let rates = accepted.lists.rates_as_main();
+    let (x_rate, y_rate, z_rate) = there.field_at_offset(rates, 0.0);
     let found = FieldAndRates {
         field,
         x_rate,

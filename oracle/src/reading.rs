@@ -1,6 +1,7 @@
 //! What the readers of the agency's file and of stored sets share.
-use crate::entries::{check_entries, Refusal};
-use crate::synthesis::N_COEFF;
+use crate::coefficients::check_entries;
+use crate::entries::Refusal;
+use crate::tables::N_COEFF;
 
 /// What a reader finds: an epoch year and four lists.
 pub type Found = (i32, [[f32; N_COEFF]; 4]);

@@ -21,7 +21,7 @@ pub fn record(records: &[WmmErrorModel], epoch_year: i32) -> Result<WmmErrorMode
 }
 
 /// Field with a list: Field's X, Y and Z, with the figures of the list's record of the day's epoch
-/// year. Refusals 1 to 8, as Field has them, then 15 and 12.
+/// year. Field's refusals, then 15 and 12.
 pub fn field_listed(
     place: &Place,
     set: &Set,

@@ -13,11 +13,11 @@ pub enum Refusal {
     DayOfYear,
     /// 5: the first and the last day that a set answers for, as (year, day of year).
     EpochYear { first: (i32, i32), last: (i32, i32) },
-    /// 6
+    /// 6: a length neither 90 nor 104.
     Length,
-    /// 7: the list (0 g, 1 h, 2 g_dot, 3 h_dot) and the index from 0.
+    /// 7: the list (0 g, 1 h, 2 g_dot, 3 h_dot; of a second set 4 g, 5 h) and the index from 0.
     Coefficient { list: usize, index: usize },
-    /// 8: the epoch years of the day and of the set.
+    /// 8: the epoch years of the day and of the set. For a second set, the year five years on and its own.
     OtherEpoch { of_day: i32, of_set: i32 },
     /// 9
     Colatitude,
@@ -45,6 +45,10 @@ pub enum Refusal {
     NoRoom,
     /// 21
     ZeroDivisor,
+    /// 22: a rate of a degree above 8 is not zero.
+    RateAboveEight,
+    /// 23: lists of 90 beside lists of 104.
+    Degree,
 }
 
 impl Refusal {
@@ -72,6 +76,8 @@ impl Refusal {
             Refusal::WrongEnd { .. } => 19,
             Refusal::NoRoom => 20,
             Refusal::ZeroDivisor => 21,
+            Refusal::RateAboveEight => 22,
+            Refusal::Degree => 23,
         }
     }
 }

@@ -7,12 +7,12 @@ use crate::entries::{
 };
 use crate::field::{GeomagneticField, WarningZone};
 use crate::format::{
-    parse_case, parse_set, put_case, put_float, put_floats, put_hex, put_int, put_refusal, put_set,
-    Case, MALFORMED, MARK, NEWLINE,
+    parse_case, parse_second_set, parse_set, put_case, put_float, put_floats, put_hex, put_int,
+    put_second_set, put_set, Case, MALFORMED, MARK, NEWLINE,
 };
 use crate::rates::rates;
 use crate::stored::{read_stored, write_stored};
-use crate::synthesis::N_COEFF;
+use crate::tables::N_COEFF;
 use std::io::{self, BufRead, Write};
 
 /// The longest line that can be read, in bytes without its newline.
@@ -20,10 +20,14 @@ pub const LONGEST: usize = 8191;
 /// How much of a longer line is written back.
 pub const SHOWN: usize = 64;
 
-/// The set that is in force. At first: epoch 0 and four empty lists.
+/// The set that is in force, and the second one of IGRF and IRATES. At first, each: epoch 0 and four
+/// empty lists.
 #[derive(Default)]
 pub struct Replay {
     pub set: Set,
+    pub second: Set,
+    /// How many times `take` has taken a set.
+    pub taken: u64,
 }
 
 fn mark_in(line: &[u8]) -> Option<usize> {
@@ -39,15 +43,25 @@ impl Replay {
         }
         match mark_in(line) {
             Some(at) => self.question(&line[..at], out),
-            None => match parse_set(line) {
-                Some(set) => {
-                    self.set = set;
-                    out.extend_from_slice(line);
-                    out.push(b'\n');
-                }
-                None => self.question(line, out),
-            },
+            None if self.read_set(line) => {
+                out.extend_from_slice(line);
+                out.push(b'\n');
+            }
+            None => self.question(line, out),
         }
+    }
+
+    /// Takes the set of a SET or SET2 line, if it is one.
+    fn read_set(&mut self, line: &[u8]) -> bool {
+        if let Some(set) = parse_set(line) {
+            self.set = set;
+            return true;
+        }
+        if let Some(set) = parse_second_set(line) {
+            self.second = set;
+            return true;
+        }
+        false
     }
 
     fn question(&self, question: &[u8], out: &mut Vec<u8>) {
@@ -55,7 +69,7 @@ impl Replay {
             Some(case) => {
                 out.extend_from_slice(question);
                 out.extend_from_slice(MARK);
-                put_answer(out, &case, &self.set);
+                self.put_answer(out, &case);
                 out.push(b'\n');
             }
             None => malformed(question, out),
@@ -66,7 +80,7 @@ impl Replay {
     pub fn case(&self, case: &Case, out: &mut Vec<u8>) {
         put_case(out, case);
         out.extend_from_slice(MARK);
-        put_answer(out, case, &self.set);
+        self.put_answer(out, case);
         out.push(b'\n');
     }
 
@@ -75,6 +89,39 @@ impl Replay {
         put_set(out, &set);
         out.push(b'\n');
         self.set = set;
+        self.taken += 1;
+    }
+
+    /// Takes a second set, and writes its line.
+    pub fn take_second(&mut self, set: Set, out: &mut Vec<u8>) {
+        put_second_set(out, &set);
+        out.push(b'\n');
+        self.second = set;
+    }
+
+    /// Writes the answer to a case: 0 and the result, or the refusal.
+    fn put_answer(&self, out: &mut Vec<u8>, case: &Case) {
+        match *case {
+            Case::Dec { word } => put_word(out, number(word).map(f32::to_bits)),
+            Case::Whole { word } => put_word(out, whole(word).map(|value| value as u32)),
+            Case::Cof { text } => put_file(out, text),
+            Case::Sread { ref stored } => put_read(out, |g, h, g_dot, h_dot| {
+                read_stored(stored, g, h, g_dot, h_dot)
+            }),
+            Case::Swrite { room } => put_written(out, &self.set, room),
+            _ => {
+                let start = out.len();
+                out.push(b'0');
+                let result = match case {
+                    Case::InProfile(asked) => asked.put_result(out, &self.set, &self.second),
+                    _ => put_result(out, case, &self.set),
+                };
+                if let Err(refusal) = result {
+                    out.truncate(start);
+                    put_refusal(out, &refusal);
+                }
+            }
+        }
     }
 }
 
@@ -83,27 +130,6 @@ fn malformed(shown: &[u8], out: &mut Vec<u8>) {
     out.extend_from_slice(MARK);
     out.extend_from_slice(MALFORMED);
     out.push(b'\n');
-}
-
-/// Writes the answer to a case: 0 and the result, or the refusal.
-pub fn put_answer(out: &mut Vec<u8>, case: &Case, set: &Set) {
-    match *case {
-        Case::Dec { word } => put_word(out, number(word).map(f32::to_bits)),
-        Case::Whole { word } => put_word(out, whole(word).map(|value| value as u32)),
-        Case::Cof { text } => put_file(out, text),
-        Case::Sread { ref stored } => put_read(out, |g, h, g_dot, h_dot| {
-            read_stored(stored, g, h, g_dot, h_dot)
-        }),
-        Case::Swrite { room } => put_written(out, set, room),
-        _ => {
-            let start = out.len();
-            out.push(b'0');
-            if let Err(refusal) = put_result(out, case, set) {
-                out.truncate(start);
-                put_refusal(out, &refusal);
-            }
-        }
-    }
 }
 
 /// Writes what a word reads as: 0 and its bits, or 13, which has no line here.
@@ -221,9 +247,36 @@ fn put_result(out: &mut Vec<u8>, case: &Case, set: &Set) -> Result<(), Refusal> 
         | Case::Whole { .. }
         | Case::Cof { .. }
         | Case::Sread { .. }
-        | Case::Swrite { .. } => unreachable!("put_answer answers these by itself"),
+        | Case::Swrite { .. }
+        | Case::InProfile(_) => unreachable!("put_answer answers these by itself"),
     }
     Ok(())
+}
+
+/// Writes a refusal: its number, then what it carries.
+fn put_refusal(out: &mut Vec<u8>, refusal: &Refusal) {
+    out.extend_from_slice(refusal.number().to_string().as_bytes());
+    match *refusal {
+        Refusal::Height { min_km, max_km } => put_floats(out, &[min_km, max_km]),
+        Refusal::EpochYear { first, last } => {
+            for part in [first.0, first.1, last.0, last.1] {
+                put_int(out, part);
+            }
+        }
+        Refusal::Coefficient { list, index } => {
+            put_int(out, list as i32);
+            put_int(out, index as i32);
+        }
+        Refusal::OtherEpoch { of_day, of_set } => {
+            put_int(out, of_day);
+            put_int(out, of_set);
+        }
+        Refusal::Malformed { line } | Refusal::OutOfOrder { line } => put_int(out, line as i32),
+        Refusal::WrongTag { place }
+        | Refusal::WrongLength { place }
+        | Refusal::WrongEnd { place } => put_int(out, place as i32),
+        _ => {}
+    }
 }
 
 /// Writes the eleven floats of a field: X, Y, Z and the error figures.

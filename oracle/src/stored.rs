@@ -1,9 +1,10 @@
 //! A stored set: five tagged fields, the epoch year and the lists g, h, g_dot, h_dot. README.md has
 //! the whole rule.
-use crate::entries::{check_entries, check_lists, Place, Refusal};
+use crate::coefficients::{check_entries, check_stored_lists};
+use crate::entries::{Place, Refusal};
 use crate::field::GeomagneticField;
 use crate::reading::{read_into, Found};
-use crate::synthesis::N_COEFF;
+use crate::tables::N_COEFF;
 
 /// The bytes of a tag and a length.
 const HEAD: usize = 3;
@@ -100,7 +101,7 @@ pub fn write_stored(
     h_dot: &[f32],
     bytes: &mut [u8],
 ) -> Result<(), Refusal> {
-    let lists = check_lists([g, h, g_dot, h_dot])?;
+    let lists = check_stored_lists([g, h, g_dot, h_dot])?;
     let epoch_year = u16::try_from(epoch_year).map_err(|_| Refusal::NoRoom)?;
     let bytes = bytes.get_mut(..STORED_LENGTH).ok_or(Refusal::NoRoom)?;
     let (year, fields) = bytes.split_at_mut(HEAD + YEAR);

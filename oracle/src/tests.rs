@@ -1,12 +1,17 @@
 //! Tests: the worked examples of document 01, the refusals and their order, the agency's file, lists
-//! of error records, angles in degrees, due south, stored sets, yearly rates, the line format, and the
-//! generated cases.
+//! of error records, angles in degrees, due south, stored sets, yearly rates, degree 13, the IGRF
+//! profile, the definitive sets, the line format, and the generated cases.
 mod agency;
 mod angles;
 mod degrees;
+mod dgrf;
 mod double;
 mod format;
 mod generated;
+mod igrf;
+mod igrf_cases;
+mod igrf_lines;
+mod lengths;
 mod listed;
 mod paper;
 mod rates;
@@ -16,10 +21,12 @@ mod refusals;
 mod south;
 mod stored;
 mod stored_lines;
+mod thirteen;
+mod thirteen_lines;
 mod words;
 
 use crate::entries::Set;
-use crate::synthesis::N_COEFF;
+use crate::tables::N_COEFF;
 
 /// A set of 2020 that is zero but for the named entries, each (list, index, value).
 fn set_of(entries: &[(usize, usize, f32)]) -> Set {

@@ -1,6 +1,8 @@
 //! Compares the oracle with the whole crate world_magnetic_model. README.md says how it is run.
 #![allow(dead_code)]
 
+#[path = "../../oracle/src/coefficients.rs"]
+mod coefficients;
 mod compare;
 #[path = "../../oracle/src/entries.rs"]
 mod entries;
@@ -17,6 +19,8 @@ mod rng;
 mod sets;
 #[path = "../../oracle/src/synthesis.rs"]
 mod synthesis;
+#[path = "../../oracle/src/tables.rs"]
+mod tables;
 mod tally;
 
 use compare::{compare, Place};

@@ -12,7 +12,7 @@ use oracle::cases::{Generator, Rng, AXES, LATITUDES, LONGITUDES, ROUND_LATITUDES
 use oracle::entries::{within, Place, Set, CAPS};
 use oracle::format::{put_case, Case};
 use oracle::models::{date_to_epoch_year, days_in_year};
-use oracle::synthesis::N_COEFF;
+use oracle::tables::N_COEFF;
 use std::process::ExitCode;
 
 /// How many random questions are compared.
@@ -72,7 +72,7 @@ fn places(tally: &mut Tally) {
 fn weak_sets(tally: &mut Tally) {
     let (mut generator, mut rng) = (Generator::new(SEED), Rng::new(SEED));
     for way in (0..WEAK_SETS).cycle().take(ROUNDS * WEAK_SETS) {
-        let (set, day) = weak_set(&mut rng, way);
+        let (set, day) = weak_set(&mut rng, N_COEFF, way);
         for latitude in 0..ROUND_LATITUDES {
             for longitude in [None, Some(rng.below(AXES)), Some(rng.below(AXES))] {
                 let ways = [None, Some(latitude), longitude, None, None];

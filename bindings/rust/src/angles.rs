@@ -17,7 +17,7 @@ pub fn sine_and_cosine(degrees: f32) -> Result<Pair, Refusal> {
 
 /// As `field`, with the latitude and the longitude in degrees: to the bit what `field` says of the
 /// pairs that `sine_and_cosine` makes of them. Refusals 16 by the latitude, 16 by the longitude, then
-/// 1, 2, 4, 5, 6, 7, 8 as those of `field`; 2 only of a latitude beyond 90 degrees, of either sign.
+/// 1, 2, 4, 5, 6, 23, 7, 8 as those of `field`; 2 only of a latitude beyond 90 degrees, of either sign.
 #[inline]
 pub fn field_in_degrees(
     height: f32,

@@ -18,12 +18,14 @@ mod stored;
 pub mod sys;
 
 pub use angles::{declination, field_in_degrees, sine_and_cosine};
-pub use owned::{OwnedSet, LIST_LENGTH};
+pub use owned::{OwnedSet, OwnedSet13, LIST_LENGTH, LIST_LENGTH_13};
 pub use rates::{rates, Rates};
 pub use records::{field_listed, ErrorRecord, Errors};
 use refusal::Carried;
 pub use refusal::{List, Refusal};
-pub use stored::{field_stored, StoredSet, STORED_LENGTH};
+pub use stored::{
+    field_stored, field_stored_either, EitherSet, StoredSet, STORED_LENGTH, STORED_LENGTH_13,
+};
 
 /// Sine and cosine of one angle.
 #[derive(Copy, Clone, Debug, PartialEq)]
@@ -39,8 +41,9 @@ pub struct Day {
     pub day_of_year: i32,
 }
 
-/// A coefficient set: its epoch year, and four lists of 90. The coefficient of degree n and order m
-/// stands at n (n + 1) / 2 + m - 1. Lists of other lengths are refused.
+/// A coefficient set: its epoch year, and four lists of 90, for degree 12, or of 104, for degree 13. The
+/// coefficient of degree n and order m stands at n (n + 1) / 2 + m - 1. Lists of other lengths are
+/// refused, and so are lists of both.
 #[derive(Copy, Clone, Debug)]
 pub struct Set<'a> {
     pub epoch_year: i32,
@@ -109,7 +112,7 @@ fn checked(number: u32) -> Result<(), Refusal> {
 }
 
 /// The field at a height [m], a geodetic latitude, a longitude and a day. Refusals 1, 2, 3, 4, 5, 6,
-/// 7, 8.
+/// 23, 7, 8.
 ///
 /// Within about 6.4 km of a pole, where the sine of the geocentric colatitude is below the f32 1e-3 in
 /// size, orders 2 and above are left out, as in the crate world_magnetic_model: with the published
@@ -203,7 +206,7 @@ pub fn allowance(
 }
 
 /// The sums over degree and order at a geocentric colatitude, a longitude, a radius ratio and an
-/// offset in years from the set's epoch. Refusals 9, 3, 10, 11, 6, 7. The set's year is not asked.
+/// offset in years from the set's epoch. Refusals 9, 3, 10, 11, 6, 23, 7. The set's year is not asked.
 #[inline]
 pub fn sum(
     colatitude: Pair,

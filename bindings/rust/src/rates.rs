@@ -22,8 +22,8 @@ pub struct Rates {
 }
 
 /// The yearly change of the field, for the same question as that of `field`: to bring an old sheet
-/// forward. Refusals 1, 2, 3, 4, 5, 6, 7, 8 as those of `field`; then 21, exactly where H of the field
-/// is zero.
+/// forward. Refusals 1, 2, 3, 4, 5, 6, 23, 7, 8 as those of `field`; then 21, exactly where H of the
+/// field is zero.
 ///
 /// Those of X, Y and Z are what `field` works out of the set's rates in the place of its coefficients.
 /// Near a pole orders 2 and above are left out of them, as of the field: with the published sets that

@@ -44,8 +44,8 @@ pub struct ErrorRecord {
 }
 
 /// As `field`, with the error figures of the first record of the day's epoch year in a lent list: so a
-/// new edition of them needs no new library. Refusals 1, 2, 3, 4, 5, 6, 7, 8 as those of `field`; then
-/// 15; then 12 where one of the eight figures of that record is not finite or is below zero (-0 is
+/// new edition of them needs no new library. Refusals 1, 2, 3, 4, 5, 6, 23, 7, 8 as those of `field`;
+/// then 15; then 12 where one of the eight figures of that record is not finite or is below zero (-0 is
 /// not). The figures of other records are not looked at.
 #[inline]
 pub fn field_listed(

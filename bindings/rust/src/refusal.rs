@@ -1,5 +1,5 @@
 //! Why a call gives no answer.
-use crate::{Day, STORED_LENGTH};
+use crate::{Day, STORED_LENGTH, STORED_LENGTH_13};
 use core::fmt;
 
 /// Which of the four lists of a set.
@@ -35,7 +35,7 @@ pub enum Refusal {
     DayOfYear,
     /// 5: the first and the last day that the models serve.
     EpochYear { first: Day, last: Day },
-    /// 6
+    /// 6: a length neither 90 nor 104, or not 90 of a set that is stored by a call for degree 12.
     Length,
     /// 7: the list and the index from 0.
     Coefficient { list: List, index: usize },
@@ -61,13 +61,15 @@ pub enum Refusal {
     WrongTag { place: usize },
     /// 18: the place of the length's first byte, from 0.
     WrongLength { place: usize },
-    /// 19: the number of the bytes where they are cut short, and `STORED_LENGTH` where bytes are left
-    /// over.
+    /// 19: the number of the bytes where they are cut short, and `STORED_LENGTH` or `STORED_LENGTH_13`,
+    /// by the set's degree, where bytes are left over.
     WrongEnd { place: usize },
     /// 20
     NoRoom,
     /// 21
     ZeroDivisor,
+    /// 23: lists of 90 beside lists of 104, or a stored set of the other degree.
+    Degree,
 }
 
 /// The places that a call lends for what a refusal carries. One that it does not lend stays 0.
@@ -133,11 +135,12 @@ impl Refusal {
             18 => Refusal::WrongLength { place },
             19 => Refusal::WrongEnd { place },
             20 => Refusal::NoRoom,
-            _ => Refusal::ZeroDivisor,
+            21 => Refusal::ZeroDivisor,
+            _ => Refusal::Degree,
         }
     }
 
-    /// The number, 1 to 21.
+    /// The number, 1 to 21 or 23.
     pub fn number(&self) -> u32 {
         match self {
             Refusal::Height { .. } => 1,
@@ -161,6 +164,7 @@ impl Refusal {
             Refusal::WrongEnd { .. } => 19,
             Refusal::NoRoom => 20,
             Refusal::ZeroDivisor => 21,
+            Refusal::Degree => 23,
         }
     }
 }
@@ -179,7 +183,9 @@ impl fmt::Display for Refusal {
                 "no model serves that day or that epoch year: the models serve from day {} of {} to day {} of {}",
                 first.day_of_year, first.year, last.day_of_year, last.year
             ),
-            Refusal::Length => f.write_str("a list of coefficients is not 90 long"),
+            Refusal::Length => {
+                f.write_str("a list of coefficients is not 90 long, nor 104 where that is taken")
+            }
             Refusal::Coefficient { list, index } => write!(
                 f,
                 "the coefficient at index {index} of {list} is not finite or is too large"
@@ -210,7 +216,11 @@ impl fmt::Display for Refusal {
             Refusal::WrongLength { place } => {
                 write!(f, "the length at byte {place} of the stored set is not that of its field")
             }
-            Refusal::WrongEnd { place } if *place < STORED_LENGTH => {
+            // a set of degree 12 ends there, and one of degree 13 can be cut short there
+            Refusal::WrongEnd { place: place @ STORED_LENGTH } => {
+                write!(f, "the stored set is cut short before byte {place}, or that byte is left over")
+            }
+            Refusal::WrongEnd { place } if *place < STORED_LENGTH_13 => {
                 write!(f, "the stored set is cut short: it ends before byte {place}")
             }
             Refusal::WrongEnd { place } => {
@@ -220,6 +230,9 @@ impl fmt::Display for Refusal {
                 "there is no room for the stored set, or its epoch year is not from 0 to 65535",
             ),
             Refusal::ZeroDivisor => f.write_str("there is no yearly change, since H is zero"),
+            Refusal::Degree => {
+                f.write_str("some lists of coefficients are 90 long, the others 104")
+            }
         }
     }
 }

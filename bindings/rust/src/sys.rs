@@ -191,7 +191,55 @@ extern "C" {
         entry: &mut [usize; 2],
     ) -> u32;
 
+    pub fn njerumoy_read_stored_either(
+        stored: *const u8,
+        stored_length: usize,
+        g: *mut f32,
+        g_length: usize,
+        h: *mut f32,
+        h_length: usize,
+        g_dot: *mut f32,
+        g_dot_length: usize,
+        h_dot: *mut f32,
+        h_dot_length: usize,
+        epoch_year: &mut i32,
+        entry: &mut [usize; 2],
+        place: &mut usize,
+    ) -> u32;
+
+    pub fn njerumoy_write_stored_either(
+        epoch_year: i32,
+        g: *const f32,
+        g_length: usize,
+        h: *const f32,
+        h_length: usize,
+        g_dot: *const f32,
+        g_dot_length: usize,
+        h_dot: *const f32,
+        h_dot_length: usize,
+        stored: *mut u8,
+        stored_length: usize,
+        entry: &mut [usize; 2],
+    ) -> u32;
+
     pub fn njerumoy_field_stored(
+        stored: *const u8,
+        stored_length: usize,
+        height: f32,
+        sin_phi: f32,
+        cos_phi: f32,
+        sin_lambda: f32,
+        cos_lambda: f32,
+        year: i32,
+        day_of_year: i32,
+        xyz: &mut [f32; 3],
+        errors: &mut [f32; 8],
+        entry: &mut [usize; 2],
+        years: &mut [i32; 2],
+        place: &mut usize,
+    ) -> u32;
+
+    pub fn njerumoy_field_stored_either(
         stored: *const u8,
         stored_length: usize,
         height: f32,

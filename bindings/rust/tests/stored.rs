@@ -263,7 +263,17 @@ fn words() {
     says(
         Refusal::WrongEnd { place: 1457 },
         19,
-        "byte 1457 is left over behind the stored set",
+        "the stored set is cut short before byte 1457, or that byte is left over",
+    );
+    says(
+        Refusal::WrongEnd { place: 1680 },
+        19,
+        "the stored set is cut short: it ends before byte 1680",
+    );
+    says(
+        Refusal::WrongEnd { place: 1681 },
+        19,
+        "byte 1681 is left over behind the stored set",
     );
     says(
         Refusal::NoRoom,

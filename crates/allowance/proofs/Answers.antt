@@ -15,11 +15,12 @@ use Rattle.synthesis.specs.Sum.{lent}
 use Rattle.strengths.specs.declared.GeomagneticField.{GeomagneticField}
 use Rattle.field.specs.Field.{Asked, field-x, field-y, field-z, fieldSays, handed}
 use Rattle.field.proofs.Answers.{after-answered, day-found, found}
+use Rattle.lists.specs.Lists.{Long}
 use Rattle.allowance.specs.declared.Allowances.{Allowances}
 use Rattle.allowance.specs.declared.AllowanceAnswer.{AllowanceAnswer}
 use Rattle.allowance.specs.declared.AllowanceAnswer.the-variants as Answer
 use Rattle.bounds.specs.Bounds.{allowed}
-use Rattle.allowance.specs.Code.{Long, majorantsOf, turnedOf}
+use Rattle.allowance.specs.Code.{majorantsOf, turnedOf}
 use Rattle.allowance.specs.Allowance.{Covered, allowancesOf, allowanceSays, said}
 use Rattle.allowance.proofs.Laws.{covered}
 
@@ -50,7 +51,7 @@ module _ (a : Asked) (year day : ℤ) where
 
     pub lists-long : Long (a .g) (a .h) (a .g-dot) (a .h-dot)
     unfolding fieldSays
-    lists-long = let l = found (errorSays (epochYear year)) a year day v (sym h) .lists in record { g-long = l .g-long; h-long = l .h-long; gd-long = l .gd-long; hd-long = l .hd-long }
+    lists-long = found (errorSays (epochYear year)) a year day v (sym h) .lists .long
 
     pub allowances-shown : (e : EpochOffset) → answered e ≡ epochSays year day → (r : Allowances) → r ≡ allowancesOf a e → answered r ≡ allowanceSays a year day
     unfolding allowanceSays

@@ -13,7 +13,7 @@ use Rattle.synthesis.specs.Sum.{Lent, inputs}
 use Rattle.allowance.specs.declared.angles.SinCos.{SinCos}
 use Rattle.allowance.specs.declared.terms.Parts.{Parts}
 use Rattle.bounds.specs.Bounds.{bounds}
-use Rattle.allowance.specs.Code.{degreeOf, general, nearPole, pairOf, partsOf, plusOf, poleDegree, rowSums, sinCos}
+use Rattle.allowance.specs.Code.{degreePart, general, nearPole, pairOf, partsOf, plusOf, poleDegree, rowSums, sinCos}
 use Rattle.allowance.proofs.Lits.{abs-zero}
 
 -- the terms of the first k orders of degree n, added up
@@ -26,9 +26,9 @@ pub more-power : (a : Lent) (j : ℕ) (ar ratio : Float) → ar ≡ power bounds
 unfolding power inputs placed bounds
 more-power a j ar ratio e f = rw (add-one, e, f)
 
-pub more-degrees : (a : Lent) (j : ℕ) (ar : Float) (tot r t u : Xyz) → ar ≡ power bounds (inputs bounds a) j → tot ≡ general a j → r ≡ rowSums a (j + 1) → t ≡ degreeOf (j + 1) ar r → u ≡ plusOf tot t
+pub more-degrees : (a : Lent) (j : ℕ) (ar : Float) (tot r t u : Xyz) → ar ≡ power bounds (inputs bounds a) j → tot ≡ general a j → r ≡ rowSums a (j + 1) → t ≡ degreePart (j + 1) ar r → u ≡ plusOf tot t
     → u ≡ general a (j + 1)
-unfolding total x-sum y-sum z-sum plusOf degreeOf
+unfolding total x-sum y-sum z-sum plusOf degreePart
 more-degrees a j ar tot r t u ep et er ed eu = eu ∙ rw (et, ed, er, ep, add-one j)
 
 pub more-pole-degrees : (a : Lent) (j : ℕ) (ar : Float) (tot t u : Xyz) → ar ≡ power bounds (inputs bounds a) j → tot ≡ nearPole a j → t ≡ poleDegree a j ar → u ≡ plusOf tot t
@@ -41,11 +41,11 @@ pub pole-degree-is : (a : Lent) (j : ℕ) (ar s k : Float) (u0 u1 : SinCos) (w0 
     → u0 ≡ sinCos (pole-angle bounds (a .sin-lambda) (a .cos-lambda) 0) → u1 ≡ sinCos (pole-angle bounds (a .sin-lambda) (a .cos-lambda) 1)
     → w0 ≡ partsOf a (j + 1) 0 (pairOf u0) → w1 ≡ partsOf a (j + 1) 1 (pairOf u1)
     → s ≡ abs (schmidtAt (place (j + 1) 1)) → k ≡ quotient bounds (inputs bounds a) (j + 1)
-    → d ≡ degreeOf (j + 1) ar (record {
+    → d ≡ degreePart (j + 1) ar (record {
       x = add binary32 (add binary32 (ofBits binary32 0) (mul binary32 (w0 .gc) (w0 .dps))) (mul binary32 (w1 .gc) (w1 .dps));
       y = ofBits binary32 0;
       z = add binary32 (add binary32 (ofBits binary32 0) (mul binary32 (w0 .gc) (w0 .ps))) (mul binary32 (w1 .gc) (w1 .ps));
     })
     → _≡_ {A = Xyz} (record { x = d .x; y = mul binary32 (mul binary32 (mul binary32 ar (w1 .gs)) k) s; z = d .z }) (poleDegree a j ar)
-unfolding poleDegree degreeOf partsOf pole-gc pole-gs pole-x-row pole-z-row total inputs placed bounds
+unfolding poleDegree degreePart partsOf pole-gc pole-gs pole-x-row pole-z-row total inputs placed bounds
 pole-degree-is a j ar s k u0 u1 w0 w1 d eu0 eu1 ew0 ew1 es ek ed = rw (ed, ew0, ew1, eu0, eu1, es, ek, abs-zero, add-one j)

@@ -1,10 +1,7 @@
 -- What each function of the code computes, in the recurrences' terms. Definitions only.
-use mathlib.Core.Path.{_≡_}
 use mathlib.Core.List.{List}
 use Prim.Native.Nat.{ℕ, suc}
-use lib.ListN.{length}
 use lib.Ieee.{Float}
-use Rattle.tables.specs.Degree.{N-COEFF}
 use Rattle.synthesis.specs.declared.Xyz.{Xyz}
 use Rattle.sums.specs.Arithmetic.{Pair, pair}
 use Rattle.sums.specs.Recurrence.{downward, dpsn, gc, gs, pole-east, pole-gs, pole-x, pole-x-row, pole-y, pole-z, pole-z-row, psn, quotient, x-row, x-sum, x-term, y-row, y-sum, y-term, z-row, z-sum, z-term}
@@ -35,13 +32,6 @@ qp r = pair (r .p) (r .dp)
 abbrev pub lentAt : Point → List Float → List Float → List Float → List Float → Lent
 lentAt q = lent (q .«cos_theta») (q .«sin_theta») (q .«sin_lambda») (q .«cos_lambda») (q .ratio) (q .offset)
 
--- the four lists are 90 long
-pub record Long (g h gd hd : List Float) : Type 0 where
-  pub g-long : length g ≡ N-COEFF
-  pub h-long : length h ≡ N-COEFF
-  pub gd-long : length gd ≡ N-COEFF
-  pub hd-long : length hd ≡ N-COEFF
-
 -- what the terms of degree n and order m are made of, u the pair of the order's angle
 unfoldable pub partsOf : Lent → ℕ → ℕ → Pair Float → Parts
 partsOf a n m u =
@@ -58,8 +48,8 @@ unfoldable pub plusOf : Xyz → Xyz → Xyz
 plusOf a b = record { x = bounds .plus (a .x) (b .x); y = bounds .plus (a .y) (b .y); z = bounds .plus (a .z) (b .z) }
 
 -- the part of degree n in the sums, from the sums over its orders
-unfoldable pub degreeOf : ℕ → Float → Xyz → Xyz
-degreeOf n power a = record { x = bounds .times power (a .x); y = bounds .times power (a .y); z = downward bounds n power (a .z) }
+unfoldable pub degreePart : ℕ → Float → Xyz → Xyz
+degreePart n power a = record { x = bounds .times power (a .x); y = bounds .times power (a .y); z = downward bounds n power (a .z) }
 
 -- ---- the general path
 -- the terms of degree n and order m

@@ -16,7 +16,7 @@ ghost use Rattle.models.specs.declared.epochs.EpochOffset.{EpochOffset};
 ghost use Rattle.models.specs.Epochs.{epochOffset};
 ghost use Rattle.field.specs.Field.{asked};
 ghost use Rattle.bounds.specs.Bounds as bounds;
-ghost use Rattle.allowance.specs.Code.{Long};
+ghost use Rattle.lists.specs.Lists.{Long};
 ghost use Rattle.allowance.specs.Allowance.{Covered, allowancesOf, allowanceSays, said};
 
 mod angles;

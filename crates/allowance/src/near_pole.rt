@@ -9,11 +9,13 @@ use crate::terms::parts_at;
 use synthesis::Xyz;
 ghost use mathlib.Core.Path.{_≡_};
 ghost use Prim.Native.Nat.{_+_, _<_};
-ghost use Rattle.tables.specs.Degree.{N-MAX};
+ghost use lib.ListN.{length};
+ghost use Rattle.tables.specs.Degree.{N-MAX, degreeOf};
 ghost use Rattle.sums.specs.Recurrence.{quotient};
 ghost use Rattle.synthesis.specs.Sum.{Lent, inputs};
 ghost use Rattle.bounds.specs.Bounds.{bounds};
-ghost use Rattle.allowance.specs.Code.{Long, lentAt, nearPole, poleDegree};
+ghost use Rattle.lists.specs.Lists.{Long};
+ghost use Rattle.allowance.specs.Code.{lentAt, nearPole, poleDegree};
 
 // Q of degree j + 1.
 pub fn quotient_of(j: usize, cos_theta: f32) -> f32
@@ -42,7 +44,7 @@ pub fn pole_part(
     g_dot: &[f32],
     h_dot: &[f32],
 ) -> Xyz
-    requires { ⌜ (j < N-MAX) × Long (now g) (now h) (now «g_dot») (now «h_dot») ⌝ }
+    requires { ⌜ (j < degreeOf (length (now g))) × Long (now g) (now h) (now «g_dot») (now «h_dot») ⌝ }
     ensures { λ r. ⌜ r ≡ poleDegree (lentAt q (now (g .entry)) (now (h .entry)) (now («g_dot» .entry)) (now («h_dot» .entry))) j «a_over_r_n2» ⌝ }
 {
     let n = j + 1;
@@ -71,7 +73,7 @@ pub fn pole_part(
 
 pub fn synthesize_near_pole(q: Point, g: &[f32], h: &[f32], g_dot: &[f32], h_dot: &[f32]) -> Xyz
     requires { ⌜ Long (now g) (now h) (now «g_dot») (now «h_dot») ⌝ }
-    ensures { λ r. ⌜ r ≡ nearPole (lentAt q (now (g .entry)) (now (h .entry)) (now («g_dot» .entry)) (now («h_dot» .entry))) N-MAX ⌝ }
+    ensures { λ r. ⌜ r ≡ nearPole (lentAt q (now (g .entry)) (now (h .entry)) (now («g_dot» .entry)) (now («h_dot» .entry))) (degreeOf (length (now (g .entry)))) ⌝ }
 {
     let ratio = float32::abs(q.ratio);
     let mut a_over_r_n2 = ratio * ratio * ratio;
@@ -80,7 +82,8 @@ pub fn synthesize_near_pole(q: Point, g: &[f32], h: &[f32], g_dot: &[f32], h_dot
         y: 0.0,
         z: 0.0,
     };
-    for j in 0..tables::N_MAX {
+    let top = tables::degree_of(g.len());
+    for j in 0..top {
         let t = pole_part(j, a_over_r_n2, q, g, h, g_dot, h_dot);
         tot = plus(tot, t);
         a_over_r_n2 = a_over_r_n2 * ratio;

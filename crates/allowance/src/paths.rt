@@ -4,7 +4,8 @@ use crate::general::synthesize_xyz_prime;
 use crate::near_pole::synthesize_near_pole;
 use synthesis::Xyz;
 ghost use mathlib.Core.Path.{_≡_};
-ghost use Rattle.allowance.specs.Code.{Long, lentAt, majorantsOf};
+ghost use Rattle.lists.specs.Lists.{Long};
+ghost use Rattle.allowance.specs.Code.{lentAt, majorantsOf};
 
 const NEAR_POLE_SIN_THETA_MIN: f32 = f32::from_bits(0x3a83126f);
 

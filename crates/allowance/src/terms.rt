@@ -6,10 +6,12 @@ use crate::rows::p_dp;
 ghost use mathlib.Core.Path.{_≡_};
 ghost use Prim.Native.Nat.{_<_, _≤_};
 ghost use Rattle.exact.specs.Tests.{abs};
-ghost use Rattle.tables.specs.Degree.{M-LEN};
+ghost use lib.ListN.{length};
+ghost use Rattle.tables.specs.Degree.{degreeOf};
 ghost use Rattle.sums.specs.Recurrence.{coefficient};
 ghost use Rattle.bounds.specs.Bounds.{bounds};
-ghost use Rattle.allowance.specs.Code.{Long, lentAt, pairOf, partsOf};
+ghost use Rattle.lists.specs.Lists.{Long};
+ghost use Rattle.allowance.specs.Code.{lentAt, pairOf, partsOf};
 
 // g cos + h sin and g sin + h cos, s·P and s·dP.
 pub struct Parts {
@@ -36,7 +38,7 @@ pub fn parts_at(
     g_dot: &[f32],
     h_dot: &[f32],
 ) -> Parts
-    requires { ⌜ (0 < n) × (n < M-LEN) × (m ≤ n) × Long (now g) (now h) (now «g_dot») (now «h_dot») ⌝ }
+    requires { ⌜ (0 < n) × (n ≤ degreeOf (length (now g))) × (m ≤ n) × Long (now g) (now h) (now «g_dot») (now «h_dot») ⌝ }
     ensures { λ r. ⌜ r ≡ partsOf (lentAt q (now (g .entry)) (now (h .entry)) (now («g_dot» .entry)) (now («h_dot» .entry))) n m (pairOf u) ⌝ }
 {
     let i = legendre_index(n, m);

@@ -15,7 +15,7 @@ use Rattle.exact.specs.Exact.{own}
 use Rattle.exact.specs.Tests.{circle, between, capped}
 use Rattle.exact.proofs.Sizes.{AtMost, between-size}
 use Rattle.refusals.specs.Paper.{answered, unless, after, told, check, both}
-use Rattle.refusals.specs.declared.Refusal.the-variants.{Latitude, Longitude, DayOfYear, Length, Coefficient, OtherEpoch, Unusable, Angle}
+use Rattle.refusals.specs.declared.Refusal.the-variants.{Latitude, Longitude, DayOfYear, Length, Coefficient, Degree, OtherEpoch, Unusable, Angle}
 use Rattle.refusals.specs.declared.Verdict.{Verdict}
 use Rattle.refusals.specs.declared.Verdict.the-variants as Verdict
 use Rattle.refusals.proofs.Never.{Never, Passes, never-unless, never-told, never-after, passes-check, passes-true, passes-both}
@@ -25,7 +25,7 @@ use Rattle.models.specs.Epochs.{unknownEpoch, wrongEpoch, epochSays, dayExists,
 use Rattle.models.specs.Errors.{builtIn, errorSays}
 use Rattle.models.specs.Records.{figuresOk, figuresSays, listedErrors}
 use Rattle.geocentric.specs.Geo.{heightOk, latitudeOk, beyond-pole}
-use Rattle.lists.specs.Lists.{entriesVerdict, long, capsVerdict, listsVerdict, main-cap, rate-cap}
+use Rattle.lists.specs.Lists.{all-whole, entriesVerdict, capsVerdict, lengthsVerdict, listsVerdict, one-degree, main-cap, rate-cap}
 use Rattle.strengths.specs.Grid.{d90}
 use Rattle.trig.specs.declared.Pair.{Pair}
 use Rattle.trig.specs.Angle.{TurnedAt}
@@ -45,12 +45,13 @@ module _ (n : ℕ) (l : n ≤ 3) where
   entries-pass cap k i (x ∷ xs) = passes-check n (capped cap x) (Coefficient k i) (entriesVerdict cap k (suc i) xs) (later 7 (lit≤ tt)) (entries-pass cap k (suc i) xs)
 
   lists-pass : (g h gd hd : List Float) → Passes n (listsVerdict g h gd hd)
-  unfolding listsVerdict
+  unfolding listsVerdict lengthsVerdict
   lists-pass g h gd hd =
       let c = entriesVerdict rate-cap 2 0 gd in
       let d = entriesVerdict rate-cap 3 0 hd in
       let b = entriesVerdict main-cap 1 0 h in
-      passes-check n (long g h gd hd) Length (capsVerdict g h gd hd) (later 6 (lit≤ tt))
+      passes-both n (lengthsVerdict g h gd hd) (capsVerdict g h gd hd)
+      (passes-check n (all-whole g h gd hd) Length (check (one-degree g h gd hd) Degree Verdict.Accepted) (later 6 (lit≤ tt)) (passes-check n (one-degree g h gd hd) Degree Verdict.Accepted (later 23 (lit≤ tt)) tt))
       (passes-both n (entriesVerdict main-cap 0 0 g) (both b (both c d)) (entries-pass main-cap 0 0 g) (passes-both n b (both c d) (entries-pass main-cap 1 0 h) (passes-both n c d (entries-pass rate-cap 2 0 gd) (entries-pass rate-cap 3 0 hd))))
 
   dated-never : (a : Asked) (e : EpochOffset) → Never n (datedSays a e)

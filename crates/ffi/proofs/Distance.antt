@@ -1,4 +1,4 @@
--- What a returned 0 means: there is an answer. So Field's promised distance holds of what `njerumoy_field`, `njerumoy_field_in_degrees`, `njerumoy_field_stored` and `njerumoy_field_listed` have written, and that of the rates of what `njerumoy_rates` has. Assumes nothing.
+-- What a returned 0 means: there is an answer. So Field's promised distance holds of what `njerumoy_field`, `njerumoy_field_in_degrees`, `njerumoy_field_stored`, `njerumoy_field_stored_either` and `njerumoy_field_listed` have written, and that of the rates of what `njerumoy_rates` has. Assumes nothing.
 use mathlib.Core.Path.{_≡_, refl, sym, ap, _∙_}
 use mathlib.Core.Bool.{Bool, true, false, not, cond}
 use mathlib.Core.List.{List, [], _∷_}
@@ -32,7 +32,7 @@ use Rattle.models.specs.Records.{figuresOk, figuresSays, listedErrors}
 use Rattle.models.specs.Errors.{builtIn, errorSays}
 use Rattle.lists.specs.Lists.{listsVerdict}
 use Rattle.lists.specs.Sets.{ModelSet}
-use Rattle.stored.specs.Stored.{storedSays, storedVerdict}
+use Rattle.stored.specs.Stored.{entriesIn, saysOf, storedSays, storedVerdict, verdictOf}
 use Rattle.trig.specs.declared.Pair.{Pair}
 use Rattle.trig.specs.Fixed.{accepted, sineSays}
 use Rattle.field.specs.declared.FieldAnswer.the-variants as Answer
@@ -45,7 +45,7 @@ use Rattle.rates.specs.declared.RatesAnswer.the-variants as RatesAnswer
 use Rattle.rates.specs.Rates.{AllFinite, RatesClose, ratesSays, ratesWith, zeroDivisor}
 use Rattle.rates.proofs.Answers as rate-answers
 use Rattle.rates.proofs.Laws.{all-finite}
-use Rattle.ffi.specs.Told.{numberOf, result, fieldFloats, errorFloats, rateFloats, storedField}
+use Rattle.ffi.specs.Told.{numberOf, result, fieldFloats, errorFloats, rateFloats, storedField, eitherField}
 use Rattle.ffi.proofs.yearly.njerumoy_rates.Kinds as rates-kinds
 use Rattle.ffi.proofs.yearly.njerumoy_rates.Reads as rates-reads
 use Rattle.ffi.proofs.fields.njerumoy_field.Kinds as kinds
@@ -54,6 +54,8 @@ use Rattle.ffi.proofs.fields.njerumoy_field_in_degrees.Kinds as degrees
 use Rattle.ffi.proofs.fields.njerumoy_field_in_degrees.Reads as degrees-reads
 use Rattle.ffi.proofs.sets.njerumoy_field_stored.Kinds as stored-kinds
 use Rattle.ffi.proofs.sets.njerumoy_field_stored.Reads as stored-reads
+use Rattle.ffi.proofs.forms.njerumoy_field_stored_either.Kinds as either-kinds
+use Rattle.ffi.proofs.forms.njerumoy_field_stored_either.Reads as either-reads
 use Rattle.ffi.proofs.listed.njerumoy_field_listed as listed
 
 -- ---- no refusal has the number 0
@@ -152,6 +154,16 @@ stored-field-answers : (s : List ℕ) (height sp cp sl cl : Float) (year day : �
 unfolding storedField
 stored-field-answers s height sp cp sl cl year day = behind-one (storedSays s) (λ m. fieldSays (with-set height sp cp sl cl m) year day) (stored-answers s) (λ m. field-answers (with-set height sp cp sl cl m) year day)
 
+-- the same of bytes of either form
+either-answers : (s : List ℕ) → Answers (saysOf (entriesIn s) s)
+unfolding saysOf
+either-answers s = behind-verdict (verdictOf (entriesIn s) s) _ (answers _)
+
+either-field-answers : (s : List ℕ) (height sp cp sl cl : Float) (year day : ℤ) → 0 ≡ numberOf (eitherField s height sp cp sl cl year day)
+    → (m : ModelSet) × (v : GeomagneticField) × (saysOf (entriesIn s) s ≡ answered m) × (eitherField s height sp cp sl cl year day ≡ answered v) × (fieldSays (with-set height sp cp sl cl m) year day ≡ answered v)
+unfolding eitherField
+either-field-answers s height sp cp sl cl year day = behind-one (saysOf (entriesIn s) s) (λ m. fieldSays (with-set height sp cp sl cl m) year day) (either-answers s) (λ m. field-answers (with-set height sp cp sl cl m) year day)
+
 -- ---- the entries
 -- whatever is passed: if it returns 0, what it has written are the floats of one record, whose X, Y and Z lie within the promised distance
 pub njerumoy-field-distance : (κs : Lfts 8) (height sin-phi cos-phi sin-lambda cos-lambda : Float) (year day epoch-year : ℤ) (g h g-dot h-dot xyz errors : RefT (List Float)) (entry : RefT (List ℕ)) (years : RefT (List ℤ))
@@ -202,6 +214,17 @@ pub njerumoy-field-stored-distance : (κs : Lfts 6) (stored : RefT (List ℕ)) (
     → (m : ModelSet) × (v : GeomagneticField) × (storedSays (now stored) ≡ answered m) × (xyz′ ≡ fieldFloats v) × (errors′ ≡ errorFloats v) × FieldClose (with-set height sin-phi cos-phi sin-lambda cos-lambda m) (epochOffset year day) v
 njerumoy-field-stored-distance κs stored height sin-phi cos-phi sin-lambda cos-lambda year day xyz errors entry years place xyz′ errors′ entry′ years′ place′ c =
     let r = stored-field-answers (now stored) height sin-phi cos-phi sin-lambda cos-lambda year day (c .0 .0) in
+    let v = r .1 in
+    (r .0, v, r .2, c .0 .1 ∙ ap (result fieldFloats _) (r .3), c .0 .2 ∙ ap (result errorFloats _) (r .3), field-close (with-set height sin-phi cos-phi sin-lambda cos-lambda (r .0)) year day (Answer.Field v) (sym (r .4)) v refl)
+
+-- the same of the entry with a stored set of either form
+pub njerumoy-field-stored-either-distance : (κs : Lfts 6) (stored : RefT (List ℕ)) (height sin-phi cos-phi sin-lambda cos-lambda : Float) (year day : ℤ) (xyz errors : RefT (List Float)) (entry : RefT (List ℕ)) (years : RefT (List ℤ)) (place : RefT ℕ)
+    (xyz′ errors′ : List Float) (entry′ : List ℕ) (years′ : List ℤ) (place′ : ℕ)
+    → (let a : Dens κs either-kinds.ps = (stored, (height, (sin-phi, (cos-phi, (sin-lambda, (cos-lambda, (year, (day, (xyz, (errors, (entry, (years, (place, tt))))))))))))) in
+    either-reads.Post κs a 0 (atExit (endedOf 6 either-kinds.ps either-kinds.r) κs a (tt, (tt, (tt, (tt, (tt, (tt, (tt, (tt, (xyz′, (errors′, (entry′, (years′, (place′, tt)))))))))))))))
+    → (m : ModelSet) × (v : GeomagneticField) × (saysOf (entriesIn (now stored)) (now stored) ≡ answered m) × (xyz′ ≡ fieldFloats v) × (errors′ ≡ errorFloats v) × FieldClose (with-set height sin-phi cos-phi sin-lambda cos-lambda m) (epochOffset year day) v
+njerumoy-field-stored-either-distance κs stored height sin-phi cos-phi sin-lambda cos-lambda year day xyz errors entry years place xyz′ errors′ entry′ years′ place′ c =
+    let r = either-field-answers (now stored) height sin-phi cos-phi sin-lambda cos-lambda year day (c .0 .0) in
     let v = r .1 in
     (r .0, v, r .2, c .0 .1 ∙ ap (result fieldFloats _) (r .3), c .0 .2 ∙ ap (result errorFloats _) (r .3), field-close (with-set height sin-phi cos-phi sin-lambda cos-lambda (r .0)) year day (Answer.Field v) (sym (r .4)) v refl)
 

@@ -2,5 +2,6 @@
 mod Refused
 mod Answered
 mod Stored
+mod Either
 pub mod Unique
 pub mod Distance

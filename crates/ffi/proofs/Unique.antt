@@ -11,8 +11,11 @@ use Rattle.ffi.proofs.fields.njerumoy_allowance as allowance-fn
 use Rattle.ffi.proofs.yearly.njerumoy_rates as rates-fn
 use Rattle.ffi.proofs.files.njerumoy_read_cof as read-cof-fn
 use Rattle.ffi.proofs.sets.njerumoy_read_stored as read-stored-fn
+use Rattle.ffi.proofs.sets.njerumoy_read_stored_either as read-stored-either-fn
 use Rattle.ffi.proofs.sets.njerumoy_write_stored as write-stored-fn
+use Rattle.ffi.proofs.sets.njerumoy_write_stored_either as write-stored-either-fn
 use Rattle.ffi.proofs.sets.njerumoy_field_stored as field-stored-fn
+use Rattle.ffi.proofs.forms.njerumoy_field_stored_either as field-stored-either-fn
 use Rattle.ffi.proofs.listed.njerumoy_field_listed as field-listed-fn
 use Rattle.ffi.proofs.listed.njerumoy_declination_uncertainty_listed as declination-uncertainty-listed-fn
 use Rattle.ffi.proofs.sums.njerumoy_sum as sum-fn
@@ -140,14 +143,37 @@ njerumoy-read-stored κs a x y u v p q =
     let place = same (p .0 .4) (q .0 .4) in
     (same (p .0 .0) (q .0 .0), λ i. (tt, (lists i .g, (lists i .h, (lists i .g-dot, (lists i .h-dot, (year i, (entry i, (place i, tt)))))))))
 
+pub njerumoy-read-stored-either : OneResult read-stored-either-fn.Kinds.ps read-stored-either-fn.Kinds.r read-stored-either-fn.Reads.Post
+njerumoy-read-stored-either κs a x y u v p q =
+    let lists = same (p .0 .1) (q .0 .1) in
+    let year = same (p .0 .2) (q .0 .2) in
+    let entry = same (p .0 .3) (q .0 .3) in
+    let place = same (p .0 .4) (q .0 .4) in
+    (same (p .0 .0) (q .0 .0), λ i. (tt, (lists i .g, (lists i .h, (lists i .g-dot, (lists i .h-dot, (year i, (entry i, (place i, tt)))))))))
+
 pub njerumoy-write-stored : OneResult write-stored-fn.Kinds.ps write-stored-fn.Kinds.r write-stored-fn.Reads.Post
 njerumoy-write-stored κs a x y u v p q =
     let bytes = same (p .0 .1) (q .0 .1) in
     let entry = same (p .0 .2) (q .0 .2) in
     (same (p .0 .0) (q .0 .0), λ i. (tt, (tt, (tt, (tt, (tt, (bytes i, (entry i, tt))))))))
 
+pub njerumoy-write-stored-either : OneResult write-stored-either-fn.Kinds.ps write-stored-either-fn.Kinds.r write-stored-either-fn.Reads.Post
+njerumoy-write-stored-either κs a x y u v p q =
+    let bytes = same (p .0 .1) (q .0 .1) in
+    let entry = same (p .0 .2) (q .0 .2) in
+    (same (p .0 .0) (q .0 .0), λ i. (tt, (tt, (tt, (tt, (tt, (bytes i, (entry i, tt))))))))
+
 pub njerumoy-field-stored : OneResult field-stored-fn.Kinds.ps field-stored-fn.Kinds.r field-stored-fn.Reads.Post
 njerumoy-field-stored κs a x y u v p q =
+    let xyz = same (p .0 .1) (q .0 .1) in
+    let errors = same (p .0 .2) (q .0 .2) in
+    let entry = same (p .0 .3) (q .0 .3) in
+    let years = same (p .0 .4) (q .0 .4) in
+    let place = same (p .0 .5) (q .0 .5) in
+    (same (p .0 .0) (q .0 .0), λ i. (tt, (tt, (tt, (tt, (tt, (tt, (tt, (tt, (xyz i, (errors i, (entry i, (years i, (place i, tt))))))))))))))
+
+pub njerumoy-field-stored-either : OneResult field-stored-either-fn.Kinds.ps field-stored-either-fn.Kinds.r field-stored-either-fn.Reads.Post
+njerumoy-field-stored-either κs a x y u v p q =
     let xyz = same (p .0 .1) (q .0 .1) in
     let errors = same (p .0 .2) (q .0 .2) in
     let entry = same (p .0 .3) (q .0 .3) in

@@ -14,7 +14,7 @@ use Rattle.synthesis.specs.declared.Xyz.{Xyz}
 use Rattle.strengths.specs.declared.GeomagneticField.{GeomagneticField}
 use Rattle.strengths.specs.Strengths.{Warning, blackout, caution, no-zone}
 use Rattle.strengths.specs.Grid.{Variation, degrees, absent}
-use Rattle.stored.specs.Stored.{storedSays}
+use Rattle.stored.specs.Stored.{entriesIn, saysOf, storedSays}
 use Rattle.field.specs.Field.{asked, fieldSays}
 use Rattle.rates.specs.declared.YearlyRates.{YearlyRates}
 use Rattle.allowance.specs.declared.Allowances.{Allowances}
@@ -57,6 +57,11 @@ verdictEntry held v = entryPlace {A = ℕ} held (told v (answered 0))
 unfoldable pub storedField : List ℕ → (height sin-phi cos-phi sin-lambda cos-lambda : Float) → (year day : ℤ) → Paper GeomagneticField
 storedField s height sp cp sl cl year day =
     after (storedSays s) (λ m. fieldSays (asked height sp cp sl cl (m .year) (m .lists .g) (m .lists .h) (m .lists .g-dot) (m .lists .h-dot)) year day)
+
+-- the same of bytes of either form
+unfoldable pub eitherField : List ℕ → (height sin-phi cos-phi sin-lambda cos-lambda : Float) → (year day : ℤ) → Paper GeomagneticField
+eitherField s height sp cp sl cl year day =
+    after (saysOf (entriesIn s) s) (λ m. fieldSays (asked height sp cp sl cl (m .year) (m .lists .g) (m .lists .h) (m .lists .g-dot) (m .lists .h-dot)) year day)
 
 -- ---- how each answer is written
 -- X', Y and Z', in this order

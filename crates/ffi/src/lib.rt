@@ -5,6 +5,7 @@ mod angles;
 mod days;
 mod fields;
 mod files;
+mod forms;
 mod listed;
 mod records;
 mod refuse;

@@ -13,7 +13,7 @@ use synthesis::Longitude;
 use tables::N_COEFF;
 ghost use mathlib.Core.Path.{_≡_};
 ghost use Rattle.lists.specs.Sets.{lists-of};
-ghost use Rattle.stored.specs.Stored.{readOf, writeOf};
+ghost use Rattle.stored.specs.Stored.{readEitherOf, readOf, writeEitherOf, writeOf};
 ghost use Rattle.field.specs.Field as field;
 ghost use Rattle.ffi.specs.Told.{numberOf, result, entryPlace, wherePlace, yearsPlace, verdictNumber, verdictEntry, whole, fieldFloats, errorFloats, storedField};
 
@@ -38,6 +38,28 @@ pub extern "C" fn njerumoy_read_stored(
     tell_read(answer, epoch_year, entry, place)
 }
 
+// The same for lists of 90 entries or of 104.
+#[no_mangle]
+pub extern "C" fn njerumoy_read_stored_either(
+    stored: &[u8],
+    g: &mut [f32],
+    h: &mut [f32],
+    g_dot: &mut [f32],
+    h_dot: &mut [f32],
+    epoch_year: &mut i32,
+    entry: &mut [usize; 2],
+    place: &mut usize,
+) -> u32
+    ensures { λ r. ⌜ (let s = readEitherOf (now (stored .entry)) (lists-of (now (g .entry)) (now (h .entry)) (now («g_dot» .entry)) (now («h_dot» .entry))) in
+        (r ≡ numberOf (s .says)) × (lists-of (now (g .exit)) (now (h .exit)) (now («g_dot» .exit)) (now («h_dot» .exit)) ≡ s .lists)
+        × (now («epoch_year» .exit) ≡ result whole (now («epoch_year» .entry)) (s .says))
+        × (now (entry .exit) ≡ entryPlace (now (entry .entry)) (s .says)) × (now (place .exit) ≡ wherePlace (now (place .entry)) (s .says))) ⌝ }
+    ensures kept { λ _. ⌜ now (stored .exit) ≡ now (stored .entry) ⌝ }
+{
+    let answer = stored::read_either(stored, g, h, g_dot, h_dot);
+    tell_read(answer, epoch_year, entry, place)
+}
+
 #[no_mangle]
 pub extern "C" fn njerumoy_write_stored(
     epoch_year: i32,
@@ -53,6 +75,27 @@ pub extern "C" fn njerumoy_write_stored(
     ensures kept { λ _. ⌜ (now (g .exit) ≡ now (g .entry)) × (now (h .exit) ≡ now (h .entry)) × (now («g_dot» .exit) ≡ now («g_dot» .entry)) × (now («h_dot» .exit) ≡ now («h_dot» .entry)) ⌝ }
 {
     tell_verdict(stored::write(epoch_year, g, h, g_dot, h_dot, stored), entry)
+}
+
+// The same for lists of 90 entries or of 104.
+#[no_mangle]
+pub extern "C" fn njerumoy_write_stored_either(
+    epoch_year: i32,
+    g: &[f32],
+    h: &[f32],
+    g_dot: &[f32],
+    h_dot: &[f32],
+    stored: &mut [u8],
+    entry: &mut [usize; 2],
+) -> u32
+    ensures { λ r. ⌜ (let w = writeEitherOf «epoch_year» (lists-of (now (g .entry)) (now (h .entry)) (now («g_dot» .entry)) (now («h_dot» .entry))) (now (stored .entry)) in
+        (r ≡ verdictNumber (w .found)) × (now (stored .exit) ≡ w .bytes) × (now (entry .exit) ≡ verdictEntry (now (entry .entry)) (w .found))) ⌝ }
+    ensures kept { λ _. ⌜ (now (g .exit) ≡ now (g .entry)) × (now (h .exit) ≡ now (h .entry)) × (now («g_dot» .exit) ≡ now («g_dot» .entry)) × (now («h_dot» .exit) ≡ now («h_dot» .entry)) ⌝ }
+{
+    tell_verdict(
+        stored::write_either(epoch_year, g, h, g_dot, h_dot, stored),
+        entry,
+    )
 }
 
 // Whether the set was written, and what a refusal of the lists carries.
@@ -100,7 +143,7 @@ fn field_of(
 }
 
 // The place in the bytes, where the reader refused them.
-fn note_where_read(answer: FieldAnswer, place: &mut usize)
+pub fn note_where_read(answer: FieldAnswer, place: &mut usize)
     ensures { λ _. ⌜ now (place .exit) ≡ wherePlace (now (place .entry)) (field.said answer) ⌝ }
 {
     if let FieldAnswer::Refused(k) = answer {

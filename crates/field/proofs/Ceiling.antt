@@ -2,8 +2,9 @@
 use mathlib.Core.Path.{_≡_, refl, sym, ap, _∙_, subst}
 use mathlib.Core.List.{List}
 use Prim.Native.Nat.{ℕ, zero, suc, _+_, _*_, _/_, _^_, _≤_, _<_}
-use native.Mathlib.Nat.{add-mul, div-add-mod', le-of-mul-le-mul-right, le-trans, mod-lt, mul-le-mul, mul-le-mul-right, not-suc-le-zero, zero-mul, mul-zero, zero-lt-suc}
+use native.Mathlib.Nat.{add-mul, div-add-mod', eq-or-lt-of-le, le-of-eq, le-of-mul-le-mul-right, le-of-suc-le-suc, le-refl, le-trans, mod-lt, mul-le-mul, mul-le-mul-right, not-suc-le-zero, zero-mul, mul-zero, zero-lt-suc}
 use native.Mathlib.Omega.{arith}
+use mathlib.Core.Logic.{inl, inr}
 use mathlib.Core.Bool.{Bool, true, false, not, cond}
 use lib.Dec.{T, leb, leb→le, lit≤}
 use lib.IntN.{ℤ, pos, negsuc}
@@ -20,6 +21,7 @@ use Rattle.exact.specs.Tests.{capped}
 use Rattle.models.specs.declared.epochs.EpochOffset.{EpochOffset}
 use Rattle.geocentric.proofs.Laws.{latitude-circle}
 use Rattle.tables.specs.Degree.{N-MAX, place}
+use Rattle.tables.proofs.Degrees.{degree-high}
 use Rattle.tables.specs.Tables.{schmidtAt, schmidtBits}
 use Rattle.tables.specs.Rule.{kOf}
 use Rattle.sums.specs.Arithmetic.{Arithmetic, plusS, rounded, sizes, timesS}
@@ -30,7 +32,7 @@ use Rattle.sums.proofs.Images.{size-hom}
 use Rattle.sums.specs.Recurrence.{Input, angle, coefficient, dpsn, gc-hs, gs-hc, legendre, lit, pole-angle, pole-gc, pole-gs, pole-x, pole-x-row, pole-y, pole-z, pole-z-row, power, psn, quotient, step, total, x-row, x-sum, y-row, y-sum, z-row, z-sum}
 use Rattle.sums.proofs.Related.{Alike, Related, pole-x-related, pole-y-related, pole-z-related, x-sum-related, y-sum-related, z-sum-related}
 use Rattle.lists.specs.Lists.{main-cap, rate-cap}
-use Rattle.synthesis.specs.Sum.{Lent, SumAccepted, inputs, ratio-ok, sum-x, sum-y, sum-z}
+use Rattle.synthesis.specs.Sum.{Lent, SumAccepted, degree, inputs, ratio-ok, sum-x, sum-y, sum-z}
 use Rattle.sums.specs.Paths.{POLE-ORDERS, placed, small-sine}
 use Rattle.lists.proofs.Checked.{Listed}
 use Rattle.synthesis.proofs.Demand as Sum
@@ -214,28 +216,47 @@ choose : (b : Bool) {x y : Size} {c : ℕ} → (T b → Under x c) → (T (not b
 choose true p q = p tt
 choose false p q = q tt
 
+-- the sums of fewer degrees come to no more
+more : (i : Input ℕ) (f : ℕ → ℕ) (n N : ℕ) → n ≤ N → total ceilings i f n ≤ total ceilings i f N
+unfolding total ceilings
+more i f zero N h = zero-le-all N
+  where
+    zero-le-all : (k : ℕ) → total ceilings i f 0 ≤ total ceilings i f k
+    zero-le-all zero = le-refl _
+    zero-le-all (suc k) = le-trans (zero-le-all k) (omega arith)
+more i f (suc n) zero h = absurd (not-suc-le-zero h)
+more i f (suc n) (suc N) h =
+    elim (eq-or-lt-of-le h) [
+      | inl e ↦ le-of-eq (ap (total ceilings i f) e)
+      | inr l ↦ le-trans (more i f (suc n) N (le-of-suc-le-suc l)) (omega arith)
+    ]
+
 -- ---- the majorants of Sum, in units
 module _ (a : Lent) (w : SumAccepted a) {c T' E : ℕ} (r : Reach c T' E) (g : (n m : ℕ) → Under (inputs sizes a .g n m) c) (h : (n m : ℕ) → Under (inputs sizes a .h n m) c) where
   largest : Alike sizes ceilings Under (inputs sizes a) (top c)
   largest = alike-top a w c g h
 
+  -- a sum over the degrees of the lists, by what it comes to over all
+  under-all : (s : Size) (f : ℕ → ℕ) (b : ℕ) → Under s (total ceilings (top c) f (degree a)) → leb (total ceilings (top c) f N-MAX) b ≡ true → Under s b
+  under-all s f b u t = under-more (le-trans (more (top c) f (degree a) N-MAX (degree-high _)) (at-most _ b t)) u
+
   x-under : Under (sum-x sizes a) (r .X)
-  unfolding inputs placed
-  x-under = choose (small-sine (a .sin-theta)) (λ t. under-more (at-most _ _ (r .sums .3)) (pole-x-related sizes ceilings Under under-related (inputs sizes a) (top c) largest POLE-ORDERS N-MAX)) (λ t. under-more (at-most _ _ (r .sums .0)) (x-sum-related sizes ceilings Under under-related (inputs sizes a) (top c) largest N-MAX))
+  unfolding inputs placed x-sum pole-x
+  x-under = choose (small-sine (a .sin-theta)) (λ t. under-all _ _ _ (pole-x-related sizes ceilings Under under-related (inputs sizes a) (top c) largest POLE-ORDERS (degree a)) (r .sums .3)) (λ t. under-all _ _ _ (x-sum-related sizes ceilings Under under-related (inputs sizes a) (top c) largest (degree a)) (r .sums .0))
 
   z-under : Under (sum-z sizes a) (r .X)
-  unfolding inputs placed
-  z-under = choose (small-sine (a .sin-theta)) (λ t. under-more (at-most _ _ (r .sums .5)) (pole-z-related sizes ceilings Under under-related (inputs sizes a) (top c) largest POLE-ORDERS N-MAX)) (λ t. under-more (at-most _ _ (r .sums .2)) (z-sum-related sizes ceilings Under under-related (inputs sizes a) (top c) largest N-MAX))
+  unfolding inputs placed z-sum pole-z
+  z-under = choose (small-sine (a .sin-theta)) (λ t. under-all _ _ _ (pole-z-related sizes ceilings Under under-related (inputs sizes a) (top c) largest POLE-ORDERS (degree a)) (r .sums .5)) (λ t. under-all _ _ _ (z-sum-related sizes ceilings Under under-related (inputs sizes a) (top c) largest (degree a)) (r .sums .2))
 
   -- 1 / sine is at most 1024
   inverse-under : T (not (small-sine (a .sin-theta))) → Under (size (invE (own (a .sin-theta)))) (2 ^ 30)
   inverse-under t = record { units = λ o. omega (arith, Sum.sine-divides a w t .size) }
 
   y-under : Under (sum-y sizes a) E
-  unfolding sizes inputs placed
+  unfolding sizes inputs placed y-sum pole-y
   y-under =
-      choose (small-sine (a .sin-theta)) (λ t. under-more (le-trans (at-most _ _ (r .sums .4)) (r .pole)) (pole-y-related sizes ceilings Under under-related (inputs sizes a) (top c) largest N-MAX))
-      (λ t. under-more (r .divided) (under-times (under-more (at-most _ _ (r .sums .1)) (y-sum-related sizes ceilings Under under-related (inputs sizes a) (top c) largest N-MAX)) (inverse-under t)))
+      choose (small-sine (a .sin-theta)) (λ t. under-more (r .pole) (under-all _ _ _ (pole-y-related sizes ceilings Under under-related (inputs sizes a) (top c) largest (degree a)) (r .sums .4)))
+      (λ t. under-more (r .divided) (under-times (under-all _ _ _ (y-sum-related sizes ceilings Under under-related (inputs sizes a) (top c) largest (degree a)) (r .sums .1)) (inverse-under t)))
 
 -- ---- the majorants of Field: the turn multiplies by little more than 2, twice
 module _ (c s cp sp : Float) (C : Slight c) (S : Slight s) (CP : Slight cp) (SP : Slight sp) {x z : Size} {B T' : ℕ} (X : Under x B) (Z : Under z B) (most : B * 2101256 / 1048576 + 1 + (B * 2101256 / 1048576 + 1) ≤ T') where

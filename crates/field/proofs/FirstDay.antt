@@ -17,9 +17,8 @@ use Rattle.models.specs.declared.errors.WmmErrorModel.{WmmErrorModel}
 use Rattle.models.specs.Epochs.{epochYear, epochOffset, offsetOf}
 use Rattle.models.specs.Laws.{offset-at-epoch}
 use Rattle.sums.specs.Arithmetic.{rounded}
-use Rattle.synthesis.specs.Sum.{inputs, sum-x, sum-z}
+use Rattle.synthesis.specs.Sum.{degree, inputs, sum-x, sum-z}
 use Rattle.synthesis.proofs.Demand.{leaves}
-use Rattle.tables.specs.Degree.{N-MAX}
 use Rattle.sums.specs.Paths.{placed}
 use Rattle.sums.proofs.Related.{Alike, path-x-related, path-y-related, path-z-related}
 use Rattle.sums.specs.Same.{Same, null, same}
@@ -85,10 +84,12 @@ module _ (a : Asked) (gd hd : List Float) (e : EpochOffset) (z : e .offset ≡ n
   sine = refl
 
   sum-x-same : Same (sum-x rounded (handed a e)) (sum-x rounded (handed other e))
-  sum-x-same = path-x-related rounded rounded Same same-related (inputs rounded (handed a e)) (inputs rounded (handed other e)) sine alike N-MAX
+  unfolding handed
+  sum-x-same = path-x-related rounded rounded Same same-related (inputs rounded (handed a e)) (inputs rounded (handed other e)) sine alike (degree (handed a e))
 
   sum-z-same : Same (sum-z rounded (handed a e)) (sum-z rounded (handed other e))
-  sum-z-same = path-z-related rounded rounded Same same-related (inputs rounded (handed a e)) (inputs rounded (handed other e)) sine alike N-MAX
+  unfolding handed
+  sum-z-same = path-z-related rounded rounded Same same-related (inputs rounded (handed a e)) (inputs rounded (handed other e)) sine alike (degree (handed a e))
 
   shown : {x y x' y' : Float} → x ≡ x' → y ≡ y' → Same x y → Same x' y'
   shown p q h = by-same (sym p) (sym q) h
@@ -100,10 +101,10 @@ module _ (a : Asked) (gd hd : List Float) (e : EpochOffset) (z : e .offset ≡ n
       (turn-x-related rounded rounded Same same-related _ _ _ _ sum-x-same sum-z-same)
 
   same-y : Same (v .y) (w .y)
-  unfolding field-y
+  unfolding field-y handed
   same-y =
       shown (ap (λ (u : GeomagneticField). u .y) (F .is)) (ap (λ (u : GeomagneticField). u .y) (G .is))
-      (path-y-related rounded rounded Same same-related (inputs rounded (handed a e)) (inputs rounded (handed other e)) sine alike N-MAX)
+      (path-y-related rounded rounded Same same-related (inputs rounded (handed a e)) (inputs rounded (handed other e)) sine alike (degree (handed a e)))
 
   same-z : Same (v .z) (w .z)
   unfolding field-z handed

@@ -1,7 +1,6 @@
 -- Field hands Sum only what Sum accepts, and its X, Y and Z keep the distance of demand 3, for every accepted input.
 use mathlib.Core.Path.{_≡_}
 use mathlib.Core.Bool.{true, not}
-use mathlib.Core.Logic.{⊎-elim}
 use lib.Dec.{T, lit≤}
 use lib.IntN.{ℤ}
 use lib.Ieee.{Float}
@@ -12,8 +11,8 @@ use Rattle.refusals.proofs.Laws.{check-accepted}
 use Rattle.refusals.specs.declared.Refusal.the-variants.{Latitude, Longitude}
 use Rattle.models.specs.declared.epochs.EpochOffset.{EpochOffset}
 use Rattle.models.specs.declared.errors.WmmErrorModel.{WmmErrorModel}
-use Rattle.models.specs.Epochs.{epochSays, knownEpoch}
-use Rattle.models.specs.Dated.{Dated, dated}
+use Rattle.models.specs.Epochs.{epochSays}
+use Rattle.models.specs.Dated.{dated, known-day}
 use Rattle.sums.proofs.Distance.{majored}
 use Rattle.field.specs.Field.{FieldAccepted, Asked, FieldClose, field-x, field-y, field-z, handed, outsideHeight, placeVerdict, recordOf, strengthsOf}
 use Rattle.exact.specs.Exact.{Exact}
@@ -137,16 +136,12 @@ module _ (a : Asked) (e : EpochOffset) (w : FieldAccepted a e) where
     close m = record { x = close-x; y = close-y; z = close-z }
 
 -- ---- what an answer says of what is asked
-known-of : {year day : ℤ} {e : EpochOffset} → Dated year day e → knownEpoch (e .«epoch_year») ≡ true
-unfolding knownEpoch
-known-of t = rw (t .epoch-is) (⊎-elim (λ h. rw h) (λ h. rw h) (t .known))
-
 module _ (a : Asked) (year day : ℤ) where
   pub accepted-by : heightOk (a .height) ≡ true → latitudeOk (a .sin-phi) (a .cos-phi) ≡ true → circle (a .sin-lambda) (a .cos-lambda) ≡ true
       → (e : EpochOffset) → epochSays year day ≡ answered e → FieldAccepted a e
   accepted-by h l c e d =
       let t = dated year day e d in
-      record { height = holds h; latitude = holds l; longitude = holds c; offset = never-11 t; known = known-of t }
+      record { height = holds h; latitude = holds l; longitude = holds c; offset = never-11 t; known = known-day year day e d }
 
   -- a place that passed, and a day that Epoch answered for
   pub accepted-at : placeVerdict (a .height) (a .sin-phi) (a .cos-phi) (a .sin-lambda) (a .cos-lambda) ≡ Verdict.Accepted → (e : EpochOffset) → epochSays year day ≡ answered e → FieldAccepted a e

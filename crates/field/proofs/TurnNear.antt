@@ -12,10 +12,10 @@ use Rattle.synthesis.proofs.Demand.{sum-x-near, sum-z-near}
 use Rattle.field.specs.Turn.{cos-turn, sin-turn, turn-x, turn-z}
 
 -- ---- from any X' and Z' of the bound a
-abbrev turnA : Abs
+abbrev pub turnA : Abs
 turnA = addA (mulA (leafA 2) (leafA 2)) (mulA (leafA 2) (leafA 2))
 
-abbrev bothA : Abs → Abs
+abbrev pub bothA : Abs → Abs
 bothA a = addA (mulA a turnA) (mulA a turnA)
 
 module _ {o : Arithmetic Float} {o' : Arithmetic Exact} (kept : Keeps o o') (c s cp sp : Float) (C : Leaf 2 c) (S : Leaf 2 s) (CP : Leaf 2 cp) (SP : Leaf 2 sp) where
@@ -31,11 +31,11 @@ module _ {o : Arithmetic Float} {o' : Arithmetic Exact} (kept : Keeps o o') (c s
   cos-near = kept .plus {a = mulA (leafA 2) (leafA 2)} {b = mulA (leafA 2) (leafA 2)} (four S CP) (four C SP) (fine-ok turnA tt)
 
   module _ (a : Abs) (f g : Float) (x z : Exact) (X : Nr a f x) (Z : Nr a g z) (F : FineA (mulA a turnA)) (G : FineA (bothA a)) where
-    turn-x-near : Nr (bothA a) (turn-x o c s cp sp f g) (turn-x o' c s cp sp x z)
+    pub turn-x-near : Nr (bothA a) (turn-x o c s cp sp f g) (turn-x o' c s cp sp x z)
     unfolding turn-x
     turn-x-near = kept .plus {a = mulA a turnA} {b = mulA a turnA} (kept .times {a = a} {b = turnA} (kept .opp {a = a} X) cos-near F) (kept .times {a = a} {b = turnA} Z sin-near F) G
 
-    turn-z-near : Nr (bothA a) (turn-z o c s cp sp f g) (turn-z o' c s cp sp x z)
+    pub turn-z-near : Nr (bothA a) (turn-z o c s cp sp f g) (turn-z o' c s cp sp x z)
     unfolding turn-z
     turn-z-near = kept .less {a = mulA a turnA} {b = mulA a turnA} (kept .times {a = a} {b = turnA} (kept .opp {a = a} X) sin-near F) (kept .times {a = a} {b = turnA} Z cos-near F) G
 

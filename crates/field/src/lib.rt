@@ -4,7 +4,6 @@ use geocentric::radius_ratio;
 use models::EpochAnswer;
 use models::EpochOffset;
 use models::ErrorModelAnswer;
-use place::check_place;
 use refusals::Day;
 use refusals::Refusal;
 use refusals::Verdict;
@@ -24,6 +23,7 @@ mod place;
 
 pub use axes::turn;
 pub use listed::field_listed;
+pub use place::check_place;
 
 // The pair of the geodetic latitude.
 pub struct Latitude {

@@ -1,3 +1,4 @@
--- Definitions: Lists (the checks), Sets (a set that is read).
+-- Definitions: Lists (the checks), Profile (those of the IGRF profile), Sets (a set that is read).
 pub mod Lists
+pub mod Profile
 pub mod Sets

@@ -5,6 +5,7 @@ use Rattle.refusals.specs.OneResult.{OneResult, OneAnswer}
 use Rattle.refusals.proofs.Clauses.{both-say-first}
 use Rattle.models.proofs.epochs.known_epoch as known-epoch-fn
 use Rattle.models.proofs.epochs.epoch as epoch-fn
+use Rattle.models.proofs.epochs.igrf_epoch as igrf-epoch-fn
 use Rattle.models.proofs.errors.error_model_by_epoch_year as error-model-by-epoch-year-fn
 use Rattle.models.proofs.records.error_model_listed as error-model-listed-fn
 
@@ -12,7 +13,10 @@ pub known-epoch : OneResult known-epoch-fn.Kinds.ps known-epoch-fn.Kinds.r known
 known-epoch κs a x y u v p q = (cc, refl)
 
 pub epoch : OneResult epoch-fn.Kinds.ps epoch-fn.Kinds.r epoch-fn.Reads.Post
-epoch κs a x y u v p q = (epoch-answer-one _ _ x y p q, refl)
+epoch κs a x y u v p q = (epoch-answer-one _ x y p q, refl)
+
+pub igrf-epoch : OneResult igrf-epoch-fn.Kinds.ps igrf-epoch-fn.Kinds.r igrf-epoch-fn.Reads.Post
+igrf-epoch κs a x y u v p q = (epoch-answer-one _ x y p q, refl)
 
 pub error-model-by-epoch-year : OneResult error-model-by-epoch-year-fn.Kinds.ps error-model-by-epoch-year-fn.Kinds.r error-model-by-epoch-year-fn.Reads.Post
 error-model-by-epoch-year κs a x y u v p q = (error-answer-one _ x y p q, refl)

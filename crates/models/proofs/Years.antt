@@ -10,7 +10,7 @@ use lib.Signed.{ltZ}
 use mir.Syntax.{w32}
 use mir.Val.{SFits, ofZ, toZ}
 use mir.ValLaws.{toZ-ofZ}
-use Rattle.models.specs.Epochs.{EPOCH-YEARS, epochYear, knownEpoch, sameYear}
+use Rattle.models.specs.Epochs.{EPOCH-YEARS, dayFrom, epochSays, epochYear, knownEpoch, sameYear, servedFrom}
 use Rattle.models.specs.Dated.{below-zero}
 
 pub same-year : (a b : ℤ) → sameYear a b ≡ true → a ≡ b
@@ -49,3 +49,8 @@ pub years-served : (y : ℤ) → knownEpoch (epochYear y) ≡ not (ltZ y (pos 20
 unfolding epochYear knownEpoch
 years-served (pos n) = served n (ltb n 2020) (ltb 2029 n) (ltb n 2025) refl refl refl
 years-served (negsuc n) = below-zero n
+
+-- so Epoch is the days from 2020 on
+pub day-of-epoch : (year day : ℤ) → dayFrom 2020 year day ≡ epochSays year day
+unfolding dayFrom epochSays servedFrom
+day-of-epoch year day = rw (years-served year)

@@ -1,17 +1,19 @@
 -- What is known of a day that Epoch accepts, in naturals.
-use mathlib.Core.Path.{_≡_, refl, ap, subst}
+use mathlib.Core.Path.{_≡_, refl, sym, ap, subst, _∙_}
 use mathlib.Core.Bool.{Bool, true, false, not, cond, _||_}
-use mathlib.Core.Logic.{_⊎_, inl, inr}
+use mathlib.Core.Logic.{_⊎_, inl, inr, ⊎-elim}
 use Prim.Native.Nat.{ℕ, zero, suc, _+_, _-_, _*_, _/_, _≤_}
 use native.Mathlib.Omega.{arith}
 use lib.IntN.{ℤ, pos, negsuc, negℤ, _*ℤ_, _-ℤ_}
 use lib.Signed.{ltZ}
 use borrow.Author.Tests.{eqb-true, ltb-false, le-ltb}
-use Rattle.refusals.specs.Paper.{answered, unless}
+use Rattle.refusals.specs.Paper.{answered, paper, unless}
+use Rattle.refusals.specs.declared.Refusal.{Refusal}
+use Rattle.refusals.specs.declared.Refusal.the-variants.{DayOfYear}
 use Rattle.refusals.proofs.Laws.{answered-one}
 use Rattle.models.specs.declared.epochs.EpochOffset.{EpochOffset}
 use Rattle.models.specs.Calendar.{leapYear, daysInYear}
-use Rattle.models.specs.Epochs.{wrongDay, wrongEpoch, dayExists, EPOCH-YEARS, epochYear, isYear, knownEpoch, offsetOf, naturalOffset, epochOffset, epochSays}
+use Rattle.models.specs.Epochs.{dayExists, dayFrom, daysFrom, servedFrom, unknownEpoch, EPOCH-YEARS, epochYear, isYear, knownEpoch, offsetOf, naturalOffset, epochOffset, epochSays}
 
 -- the year y, its epoch year ep, the day d and the year's length n
 pub record Dated (year day : ℤ) (e : EpochOffset) : Type 0 where
@@ -23,7 +25,7 @@ pub record Dated (year day : ℤ) (e : EpochOffset) : Type 0 where
   pub epoch-is : e .«epoch_year» ≡ pos ep
   pub day-is : day ≡ pos d
   pub days-are : n ≡ daysInYear year
-  pub known : (ep ≡ 2020) ⊎ (ep ≡ 2025)
+  pub latest : y ≤ 2029
   pub since : ep ≤ y
   pub until : y ≤ ep + 4
   pub first : 1 ≤ d
@@ -37,7 +39,7 @@ record InEpoch (year : ℤ) : Type 0 where
   ep : ℕ
   year-is : year ≡ pos y
   epoch-is : epochYear year ≡ pos ep
-  known : (ep ≡ 2020) ⊎ (ep ≡ 2025)
+  latest : y ≤ 2029
   since : ep ≤ y
   until : y ≤ ep + 4
 
@@ -66,19 +68,22 @@ pub below-zero : (y : ℕ) → knownEpoch (epochYear (negsuc y)) ≡ false
 unfolding epochYear
 below-zero y = rw (neg-epochs (suc y / EPOCH-YEARS)) (not-minus (suc y / EPOCH-YEARS * EPOCH-YEARS))
 
-in-epoch : (year : ℤ) → knownEpoch (epochYear year) ≡ true → InEpoch year
+-- a year that is neither before a first one nor after 2029
+in-epoch : (first : ℕ) (year : ℤ) → ltZ year (pos first) ≡ false → ltZ (pos 2029) year ≡ false → InEpoch year
+unfolding epochYear
+in-epoch first (pos y) early late = record { y = y; ep = y / EPOCH-YEARS * EPOCH-YEARS; year-is = refl; epoch-is = refl; latest = ltb-false 2029 y late; since = omega arith; until = omega arith }
+in-epoch first (negsuc y) early late = absurd (never (cc))
+
+-- a year of a known epoch is one from 2020 on
+not-outside : (year : ℤ) → knownEpoch (epochYear year) ≡ true → (ltZ year (pos 2020) ≡ false) × (ltZ (pos 2029) year ≡ false)
 unfolding epochYear knownEpoch
-in-epoch (pos y) h =
-    record {
-      y = y;
-      ep = y / EPOCH-YEARS * EPOCH-YEARS;
-      year-is = refl;
-      epoch-is = refl;
-      known = which (y / EPOCH-YEARS * EPOCH-YEARS) (either (isYear 2020 (pos (y / EPOCH-YEARS * EPOCH-YEARS))) (isYear 2025 (pos (y / EPOCH-YEARS * EPOCH-YEARS))) h);
-      since = omega arith;
-      until = omega arith;
-    }
-in-epoch (negsuc y) h = absurd (never (let b = below-zero y in cc))
+not-outside (pos y) h =
+    let ep = y / EPOCH-YEARS * EPOCH-YEARS in
+    ⊎-elim
+    (λ (e : ep ≡ 2020). (le-ltb y 2020 (omega (arith, e)), le-ltb 2029 y (omega (arith, e))))
+    (λ (e : ep ≡ 2025). (le-ltb y 2020 (omega (arith, e)), le-ltb 2029 y (omega (arith, e))))
+    (which ep (either (isYear 2020 (pos ep)) (isYear 2025 (pos ep)) h))
+not-outside (negsuc y) h = absurd (never (let b = below-zero y in cc))
 
 -- ---- the day
 record InYear (year day : ℤ) : Type 0 where
@@ -110,9 +115,9 @@ unfolding offsetOf
 offset-of {y = y} {ep = ep} {d = d} e f g h k = rw (e, f, g, minus y ep h, minus d 1 k)
 
 -- ---- a day that passes the tests
-pub accepted : (year day : ℤ) → ltZ day (pos 1) ≡ false → ltZ (pos (daysInYear year)) day ≡ false → knownEpoch (epochYear year) ≡ true → Dated year day (epochOffset year day)
-accepted year day low high k =
-    let e = in-epoch year k in
+pub accepted : (first : ℕ) (year day : ℤ) → ltZ day (pos 1) ≡ false → ltZ (pos (daysInYear year)) day ≡ false → ltZ year (pos first) ≡ false → ltZ (pos 2029) year ≡ false → Dated year day (epochOffset year day)
+accepted first year day low high early late =
+    let e = in-epoch first year early late in
     let i = in-year year day low high in
     record {
       y = e .y;
@@ -123,7 +128,7 @@ accepted year day low high k =
       epoch-is = e .epoch-is;
       day-is = i .day-is;
       days-are = refl;
-      known = e .known;
+      latest = e .latest;
       since = e .since;
       until = e .until;
       first = i .first;
@@ -137,13 +142,32 @@ no-or true b h = absurd (never (cc))
 no-or false true h = absurd (never (cc))
 no-or false false h = (refl, refl)
 
+-- of two tests behind which stands an answer, both passed
+both-passed : {A : Type 0} (a b : Bool) (k l : Refusal) (x y : A) → unless a (paper k) (unless b (paper l) (answered x)) ≡ answered y → (a ≡ true) × (b ≡ true) × (x ≡ y)
+both-passed true true k l x y h = (refl, refl, answered-one x y h)
+both-passed true false k l x y h = absurd (never (cc))
+both-passed false b k l x y h = absurd (never (cc))
+
+-- a day that is answered for, of Epoch and of the years from a first one on
 pub dated : (year day : ℤ) (e : EpochOffset) → epochSays year day ≡ answered e → Dated year day e
 unfolding epochSays dayExists
-dated year day e h = go (dayExists year day) (knownEpoch (epochYear year)) refl refl h
-  where
-    go : (a b : Bool) → dayExists year day ≡ a → knownEpoch (epochYear year) ≡ b → unless a wrongDay (unless b wrongEpoch (answered (epochOffset year day))) ≡ answered e → Dated year day e
-    go true true p q h =
-        let t = no-or (ltZ day (pos 1)) (ltZ (pos (daysInYear year)) day) p in
-        subst (λ (r : EpochOffset). Dated year day r) (answered-one _ _ h) (accepted year day (t .0) (t .1) q)
-    go true false p q h = absurd (never (cc))
-    go false b p q h = absurd (never (cc))
+dated year day e h =
+    let p = both-passed (dayExists year day) (knownEpoch (epochYear year)) DayOfYear unknownEpoch (epochOffset year day) e h in
+    let t = no-or (ltZ day (pos 1)) (ltZ (pos (daysInYear year)) day) (p .0) in
+    let y = not-outside year (p .1) in
+    subst (λ (r : EpochOffset). Dated year day r) (p .2) (accepted 2020 year day (t .0) (t .1) (y .0) (y .1))
+
+pub dated-from : (first : ℕ) (year day : ℤ) (e : EpochOffset) → dayFrom first year day ≡ answered e → Dated year day e
+unfolding dayFrom servedFrom dayExists
+dated-from first year day e h =
+    let p = both-passed (dayExists year day) (servedFrom first year) DayOfYear (daysFrom first) (epochOffset year day) e h in
+    let t = no-or (ltZ day (pos 1)) (ltZ (pos (daysInYear year)) day) (p .0) in
+    let y = no-or (ltZ year (pos first)) (ltZ (pos 2029) year) (p .1) in
+    subst (λ (r : EpochOffset). Dated year day r) (p .2) (accepted first year day (t .0) (t .1) (y .0) (y .1))
+
+-- and its epoch is a known one
+pub known-day : (year day : ℤ) (e : EpochOffset) → epochSays year day ≡ answered e → knownEpoch (e .«epoch_year») ≡ true
+unfolding epochSays
+known-day year day e h =
+    let p = both-passed (dayExists year day) (knownEpoch (epochYear year)) DayOfYear unknownEpoch (epochOffset year day) e h in
+    ap (λ (r : EpochOffset). knownEpoch (r .«epoch_year»)) (sym (p .2)) ∙ p .1

@@ -17,9 +17,12 @@ use Rattle.models.specs.Calendar.{daysInYear}
 abbrev pub wrongDay : {A : Type 0} → Paper A
 wrongDay = paper DayOfYear
 
--- refusal 5, with its first and its last day
+-- refusal 5, with its first and its last day: from the first day of a year to the last of 2029
+abbrev pub daysFrom : ℕ → Refusal
+daysFrom first = EpochYear (record { year = pos first; «day_of_year» = pos 1 }) (record { year = pos 2029; «day_of_year» = pos 365 })
+
 abbrev pub unknownEpoch : Refusal
-unknownEpoch = EpochYear (record { year = pos 2020; «day_of_year» = pos 1 }) (record { year = pos 2029; «day_of_year» = pos 365 })
+unknownEpoch = daysFrom 2020
 
 abbrev pub wrongEpoch : {A : Type 0} → Paper A
 wrongEpoch = paper unknownEpoch
@@ -78,3 +81,23 @@ epochSays year day =
     unless (dayExists year day) wrongDay
     (unless (knownEpoch (epochYear year)) wrongEpoch
     (answered (epochOffset year day)))
+
+-- ---- the IGRF profile (document 02, Wish 8)
+-- the year lies from first to 2029
+unfoldable pub servedFrom : ℕ → ℤ → Bool
+servedFrom first year = not (ltZ year (pos first) || ltZ (pos 2029) year)
+
+-- a day of these years: refusal 4, then refusal 5, then its epoch year and its offset
+unfoldable pub dayFrom : ℕ → (year day : ℤ) → Paper EpochOffset
+dayFrom first year day =
+    unless (dayExists year day) wrongDay
+    (unless (servedFrom first year) (paper (daysFrom first))
+    (answered (epochOffset year day)))
+
+-- the first year of the profile
+abbrev pub IGRF-FIRST : ℕ
+IGRF-FIRST = 2000
+
+-- its days: from 2000-01-01 to 2029-12-31
+abbrev pub igrfDay : (year day : ℤ) → Paper EpochOffset
+igrfDay = dayFrom IGRF-FIRST

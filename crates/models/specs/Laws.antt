@@ -11,7 +11,8 @@ use Rattle.models.specs.declared.errors.ErrorModelAnswer.{ErrorModelAnsw
 use Rattle.models.specs.declared.errors.ErrorModelAnswer.the-variants as error-variants
 use Rattle.models.specs.Calendar.{leapYear}
 use Rattle.models.specs.declared.errors.WmmErrorModel.{WmmErrorModel}
-use Rattle.models.specs.Epochs.{wholeAndPart, offsetOf, said, epochSays}
+use Rattle.models.specs.declared.epochs.EpochOffset.{EpochOffset}
+use Rattle.models.specs.Epochs.{wholeAndPart, offsetOf, said}
 use Rattle.models.specs.Errors.{errorSaid}
 
 -- ---- any two results that a contract allows are equal
@@ -21,8 +22,8 @@ same-said (Epoch a) (Refused l) h = absurd (no-answer l a (sym h))
 same-said (Refused k) (Epoch b) h = absurd (no-answer k b h)
 same-said (Refused k) (Refused l) h = ap Refused (paper-one k l h)
 
-pub epoch-answer-one : (year day : ℤ) (r s : EpochAnswer) → said r ≡ epochSays year day → said s ≡ epochSays year day → r ≡ s
-epoch-answer-one year day r s h k = same-said r s (h ∙ sym k)
+pub epoch-answer-one : (p : Paper EpochOffset) (r s : EpochAnswer) → said r ≡ p → said s ≡ p → r ≡ s
+epoch-answer-one p r s h k = same-said r s (h ∙ sym k)
 
 same-error-said : (r s : ErrorModelAnswer) → errorSaid r ≡ errorSaid s → r ≡ s
 same-error-said (error-variants.Model a) (error-variants.Model b) h = ap error-variants.Model (answered-one a b h)

@@ -4,12 +4,15 @@ use refusals::Day;
 use refusals::Refusal;
 ghost use mathlib.Core.Path.{_≡_};
 ghost use Prim.Native.Nat.{_≤_};
-ghost use Rattle.models.specs.Epochs.{epochYear, knownEpoch, naturalOffset, said, epochSays};
+ghost use Rattle.models.specs.Epochs.{dayFrom, epochYear, igrfDay, knownEpoch, naturalOffset, said, epochSays};
 
 const WMM_EPOCH_INTERVAL_YEARS: i32 = 5;
 
 // The two models serve from the first day of FIRST_YEAR to the last day of LAST_YEAR.
-const FIRST_YEAR: i32 = 2020;
+const FIRST_YEAR: u16 = 2020;
+
+// The IGRF profile begins earlier.
+const IGRF_FIRST_YEAR: u16 = 2000;
 
 const LAST_YEAR: i32 = 2029;
 
@@ -26,7 +29,7 @@ pub enum EpochAnswer {
 // Refusal 5, with the first and the last day that are served.
 pub const UNKNOWN_EPOCH: Refusal = Refusal::EpochYear {
     first: Day {
-        year: FIRST_YEAR,
+        year: 2020,
         day_of_year: 1,
     },
     last: Day {
@@ -56,8 +59,9 @@ fn years_since_epoch(year: u16, epoch_year: u16, day_of_year: u16, days: u16) ->
     (year - epoch_year) as f32 + (day_of_year - 1) as f32 / days as f32
 }
 
-pub fn epoch(year: i32, day_of_year: i32) -> EpochAnswer
-    ensures { λ r. ⌜ said r ≡ epochSays year «day_of_year» ⌝ }
+// One body for the two calls below: the days from the first of `first` on.
+fn day_from(first: u16, year: i32, day_of_year: i32) -> EpochAnswer
+    ensures { λ r. ⌜ said r ≡ dayFrom first year «day_of_year» ⌝ }
 {
     let days = days_in_year(year);
     if day_of_year < 1 {
@@ -66,12 +70,34 @@ pub fn epoch(year: i32, day_of_year: i32) -> EpochAnswer
     if (days as i32) < day_of_year {
         return EpochAnswer::Refused(Refusal::DayOfYear);
     }
-    // Asked of the year and not of its epoch year: the answer is the same for both sets, so no branch
+    // Asked of the year and not of its epoch year: the answer is the same for all sets, so no branch
     // turns on which of them serves the day.
-    if year < FIRST_YEAR || LAST_YEAR < year {
-        return EpochAnswer::Refused(UNKNOWN_EPOCH);
+    if year < first as i32 || LAST_YEAR < year {
+        return EpochAnswer::Refused(Refusal::EpochYear {
+            first: Day {
+                year: first as i32,
+                day_of_year: 1,
+            },
+            last: Day {
+                year: LAST_YEAR,
+                day_of_year: 365,
+            },
+        });
     }
     let epoch_year = date_to_epoch_year(year);
     let offset = years_since_epoch(year as u16, epoch_year as u16, day_of_year as u16, days);
     EpochAnswer::Epoch(EpochOffset { epoch_year, offset })
+}
+
+pub fn epoch(year: i32, day_of_year: i32) -> EpochAnswer
+    ensures { λ r. ⌜ said r ≡ epochSays year «day_of_year» ⌝ }
+{
+    day_from(FIRST_YEAR, year, day_of_year)
+}
+
+// The days of the IGRF profile.
+pub fn igrf_epoch(year: i32, day_of_year: i32) -> EpochAnswer
+    ensures { λ r. ⌜ said r ≡ igrfDay year «day_of_year» ⌝ }
+{
+    day_from(IGRF_FIRST_YEAR, year, day_of_year)
 }

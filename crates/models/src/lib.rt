@@ -9,6 +9,7 @@ pub use epochs::EpochAnswer;
 pub use epochs::EpochOffset;
 pub use epochs::UNKNOWN_EPOCH;
 pub use epochs::epoch;
+pub use epochs::igrf_epoch;
 pub use epochs::known_epoch;
 pub use errors::ErrorModelAnswer;
 pub use errors::WmmErrorModel;

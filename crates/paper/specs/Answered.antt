@@ -15,7 +15,8 @@ use Rattle.tables.specs.Tables.{schmidtAt, schmidtBits}
 use Rattle.tables.specs.Rule.{kOf}
 use Rattle.sums.specs.Arithmetic.{rounded}
 use Rattle.sums.specs.Recurrence.{angle, dpsn, gc-hs, gs-hc, legendre, lit, pole-angle, pole-gc, pole-gs, pole-x, pole-x-row, pole-y, pole-z, pole-z-row, power, psn, quotient, step, total, x-row, x-sum, y-row, y-sum, z-row, z-sum}
-use Rattle.lists.specs.Lists.{entriesVerdict, listsVerdict}
+use Rattle.tables.specs.Degree.{degreeOf}
+use Rattle.lists.specs.Lists.{entriesVerdict, lengthsVerdict, listsVerdict}
 use Rattle.synthesis.specs.Sum.{inputs}
 use Rattle.sums.specs.Paths.{placed, small-sine}
 use Rattle.geocentric.specs.Geo.{flatness, curve, cosine-factor, sine-factor, cylinder, axis, radiusOf, cosOf, sinOf, ratioOf}
@@ -34,5 +35,5 @@ shown x z = answered (recordOf (record { x = ofBits binary32 x; y = nought; z = 
 
 -- on the equator the field points north, by 29,902.2 nT; at the pole it points down, by 60,410.0 nT (X is -0)
 pub field-answers : (fieldSays (at nought one) (pos 2025) (pos 1) ≡ shown 0x46e99c72 0) × (fieldSays (at one nought) (pos 2025) (pos 1) ≡ shown 0x80000000 0x476bfa0b)
-unfolding fieldSays fieldWith componentsSays placeVerdict datedSays shownSays handed field-x field-y field-z turn-x turn-z sin-turn cos-turn flatness curve cosine-factor sine-factor cylinder axis radiusOf cosOf sinOf ratioOf sqrtOf epochSays dayExists epochYear knownEpoch offsetOf leapYear errorSays listedErrors figuresSays figuresOk figureOk listsVerdict entriesVerdict circle capped small-sine inputs placed schmidtAt schmidtBits kOf rounded lit angle pole-angle step legendre total gc-hs gs-hc psn dpsn power x-row y-row z-row x-sum y-sum z-sum quotient pole-gc pole-gs pole-x-row pole-z-row pole-x pole-y pole-z ofBits ofInt round sum add sub mul neg div lt le eq
+unfolding fieldSays fieldWith componentsSays placeVerdict datedSays shownSays handed field-x field-y field-z turn-x turn-z sin-turn cos-turn flatness curve cosine-factor sine-factor cylinder axis radiusOf cosOf sinOf ratioOf sqrtOf epochSays dayExists epochYear knownEpoch offsetOf leapYear errorSays listedErrors figuresSays figuresOk figureOk lengthsVerdict listsVerdict degreeOf entriesVerdict circle capped small-sine inputs placed schmidtAt schmidtBits kOf rounded lit angle pole-angle step legendre total gc-hs gs-hc psn dpsn power x-row y-row z-row x-sum y-sum z-sum quotient pole-gc pole-gs pole-x-row pole-z-row pole-x pole-y pole-z ofBits ofInt round sum add sub mul neg div lt le eq
 field-answers = (refl, refl)

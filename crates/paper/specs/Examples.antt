@@ -14,13 +14,13 @@ use Rattle.models.specs.declared.epochs.EpochOffset.{EpochOffset}
 use Rattle.models.specs.Epochs.{dayExists, epochYear, knownEpoch, offsetOf, epochSays}
 use Rattle.models.specs.Records.{figureOk, figuresOk, figuresSays, listedErrors}
 use Rattle.models.specs.Errors.{errors2025, errorSays}
-use Rattle.tables.specs.Degree.{N-COEFF, place}
+use Rattle.tables.specs.Degree.{N-COEFF, degreeOf, place}
 use Rattle.tables.specs.Tables.{schmidtAt, schmidtBits}
 use Rattle.tables.specs.Rule.{kOf, mended, misses}
 use Rattle.synthesis.specs.declared.Xyz.{Xyz}
 use Rattle.sums.specs.Arithmetic.{rounded}
 use Rattle.sums.specs.Recurrence.{angle, coefficient, dpsn, gc-hs, gs-hc, legendre, lit, pole-angle, pole-gc, pole-gs, pole-x, pole-x-row, pole-y, pole-z, pole-z-row, power, psn, quotient, step, total, x-row, x-sum, y-row, y-sum, z-row, z-sum}
-use Rattle.lists.specs.Lists.{entriesVerdict, listsVerdict}
+use Rattle.lists.specs.Lists.{entriesVerdict, lengthsVerdict, listsVerdict}
 use Rattle.synthesis.specs.Sum.{inputs, lent, numbersVerdict, offset-ok, ratio-ok, sumSays, valueOf}
 use Rattle.sums.specs.Paths.{placed, small-sine}
 use Rattle.strengths.specs.declared.GeomagneticField.{GeomagneticField}
@@ -150,7 +150,7 @@ abbrev Met : Example → Type 0
 Met e = e .said ≡ e .asked-for
 
 first-said : sumSays (lent nought one nought one one nought dipole zeros zeros zeros) ≡ answered (record { x = ofBits binary32 0xc6ea6000; y = nought; z = nought })
-unfolding valueOf sumSays numbersVerdict listsVerdict entriesVerdict circle ratio-ok offset-ok capped small-sine inputs placed schmidtAt schmidtBits kOf rounded lit angle pole-angle step legendre total gc-hs gs-hc psn dpsn power x-row y-row z-row x-sum y-sum z-sum quotient pole-gc pole-gs pole-x-row pole-z-row pole-x pole-y pole-z ofBits ofInt round sum add sub mul neg div lt le eq
+unfolding valueOf sumSays numbersVerdict lengthsVerdict listsVerdict degreeOf entriesVerdict circle ratio-ok offset-ok capped small-sine inputs placed schmidtAt schmidtBits kOf rounded lit angle pole-angle step legendre total gc-hs gs-hc psn dpsn power x-row y-row z-row x-sum y-sum z-sum quotient pole-gc pole-gs pole-x-row pole-z-row pole-x pole-y pole-z ofBits ofInt round sum add sub mul neg div lt le eq
 first-said = refl
 
 first-met : Met first
@@ -158,7 +158,7 @@ unfolding first ofBits toBits
 first-met = ap (row components) first-said
 
 second-said : sumSays (lent one nought nought one one nought dipole zeros zeros zeros) ≡ answered (record { x = nought; y = nought; z = ofBits binary32 0xc76a6000 })
-unfolding valueOf sumSays numbersVerdict listsVerdict entriesVerdict circle ratio-ok offset-ok capped small-sine inputs placed schmidtAt schmidtBits kOf rounded lit angle pole-angle step legendre total gc-hs gs-hc psn dpsn power x-row y-row z-row x-sum y-sum z-sum quotient pole-gc pole-gs pole-x-row pole-z-row pole-x pole-y pole-z ofBits ofInt round sum add sub mul neg div lt le eq
+unfolding valueOf sumSays numbersVerdict lengthsVerdict listsVerdict degreeOf entriesVerdict circle ratio-ok offset-ok capped small-sine inputs placed schmidtAt schmidtBits kOf rounded lit angle pole-angle step legendre total gc-hs gs-hc psn dpsn power x-row y-row z-row x-sum y-sum z-sum quotient pole-gc pole-gs pole-x-row pole-z-row pole-x pole-y pole-z ofBits ofInt round sum add sub mul neg div lt le eq
 second-said = refl
 
 second-met : Met second
@@ -166,7 +166,7 @@ unfolding second ofBits toBits
 second-met = ap (row components) second-said
 
 third-said : sumSays (lent nought one nought one one nought zeros sectoral zeros zeros) ≡ answered (record { x = nought; y = ofBits binary32 0xc58ca000; z = nought })
-unfolding valueOf sumSays numbersVerdict listsVerdict entriesVerdict circle ratio-ok offset-ok capped small-sine inputs placed schmidtAt schmidtBits kOf rounded lit angle pole-angle step legendre total gc-hs gs-hc psn dpsn power x-row y-row z-row x-sum y-sum z-sum quotient pole-gc pole-gs pole-x-row pole-z-row pole-x pole-y pole-z ofBits ofInt round sum add sub mul neg div lt le eq
+unfolding valueOf sumSays numbersVerdict lengthsVerdict listsVerdict degreeOf entriesVerdict circle ratio-ok offset-ok capped small-sine inputs placed schmidtAt schmidtBits kOf rounded lit angle pole-angle step legendre total gc-hs gs-hc psn dpsn power x-row y-row z-row x-sum y-sum z-sum quotient pole-gc pole-gs pole-x-row pole-z-row pole-x pole-y pole-z ofBits ofInt round sum add sub mul neg div lt le eq
 third-said = refl
 
 third-met : Met third
@@ -174,7 +174,7 @@ unfolding third ofBits toBits
 third-met = ap (row components) third-said
 
 others-met : map (λ (e : Example). e .said) others ≡ map (λ (e : Example). e .asked-for) others
-unfolding others listsVerdict entriesVerdict circle capped schmidtBits misses rounded epochSays dayExists epochYear knownEpoch offsetOf leapYear errorSays listedErrors figuresSays figuresOk figureOk usable hOf strengthSays zoneOf zoneSays clamped uncertaintySays uncertaintyWith sqrtOf wrapped crateWrapped fieldSays fieldWith componentsSays placeVerdict datedSays shownSays ofBits ofInt round sum add sub mul neg div lt le eq
+unfolding others lengthsVerdict listsVerdict degreeOf entriesVerdict circle capped schmidtBits misses rounded epochSays dayExists epochYear knownEpoch offsetOf leapYear errorSays listedErrors figuresSays figuresOk figureOk usable hOf strengthSays zoneOf zoneSays clamped uncertaintySays uncertaintyWith sqrtOf wrapped crateWrapped fieldSays fieldWith componentsSays placeVerdict datedSays shownSays ofBits ofInt round sum add sub mul neg div lt le eq
 others-met = refl
 
 -- every example says what the documents say

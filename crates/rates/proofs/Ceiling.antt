@@ -32,10 +32,10 @@ use Rattle.rates.proofs.Rated.{rated-accepted, rated-listed}
 full : ℕ
 full = coefficient ceilings (ceilings .num rate-cap) (ceilings .num rate-cap) (ceilings .num (ofBits binary32 0))
 
--- 2 ^ 37 nT a year in X and Z, 2 ^ 43 in Y, in units of 2 ^ -20
-full-reach : Reach full (2 ^ 57) (2 ^ 63)
+-- 15·2 ^ 34 nT a year in X and Z, 23·2 ^ 40 in Y, in units of 2 ^ -20
+full-reach : Reach full (15 * 2 ^ 54) (23 * 2 ^ 60)
 unfolding ceilings upward invE own ofBits ofInt round lit schmidtAt schmidtBits kOf angle pole-angle step legendre total gc-hs gs-hc psn dpsn power x-row y-row z-row x-sum y-sum z-sum quotient pole-gc pole-gs pole-x-row pole-z-row pole-x pole-y pole-z top full
-full-reach = record { X = 3 * 2 ^ 53; Y = 2 ^ 53 - 1; sums = (refl, refl, refl, refl, refl, refl); turned = lit≤ tt; divided = lit≤ tt; pole = lit≤ tt }
+full-reach = record { X = 7 * 2 ^ 53; Y = 23 * 2 ^ 50 - 1; sums = (refl, refl, refl, refl, refl, refl); turned = lit≤ tt; divided = lit≤ tt; pole = lit≤ tt }
 
 -- a float near a number whose majorant is at most T units of 2 ^ -20 is itself at most k
 most : (T k : ℕ) → T * (FINE + 8) + FINE ≤ k * (FINE * FINE) → (f : Float) (x : Exact) (M : Size) → size x ≡ M → Within f x M → Under M T → (n : ℕ) → In n f → n ≤ k * ONE
@@ -70,10 +70,10 @@ module _ (a : Asked) (year day : ℤ) (v : GeomagneticField) (h : fieldSays a ye
   h-full n m = let k = under-related in k .plus (rate-under _ (leaves .h-dot n m)) (k .times (k .num (ofBits binary32 0)) (rate-under _ (leaves .h-dot n m)))
 
   pub x-rate-most : (n : ℕ) → In n (field-x rounded of-rates at) → n ≤ 2 ^ 38 * ONE
-  x-rate-most = most (2 ^ 57) (2 ^ 38) (lit≤ tt) _ _ _ (field-x-image size-hom of-rates at) (close-x of-rates at accepted listed) (field-x-under of-rates at accepted listed full-reach g-full h-full)
+  x-rate-most = most (15 * 2 ^ 54) (2 ^ 38) (lit≤ tt) _ _ _ (field-x-image size-hom of-rates at) (close-x of-rates at accepted listed) (field-x-under of-rates at accepted listed full-reach g-full h-full)
 
-  pub y-rate-most : (n : ℕ) → In n (field-y rounded of-rates at) → n ≤ 9 * 2 ^ 40 * ONE
-  y-rate-most = most (2 ^ 63) (9 * 2 ^ 40) (lit≤ tt) _ _ _ (field-y-image size-hom of-rates at) (close-y of-rates at accepted listed) (field-y-under of-rates at accepted listed full-reach g-full h-full)
+  pub y-rate-most : (n : ℕ) → In n (field-y rounded of-rates at) → n ≤ 24 * 2 ^ 40 * ONE
+  y-rate-most = most (23 * 2 ^ 60) (24 * 2 ^ 40) (lit≤ tt) _ _ _ (field-y-image size-hom of-rates at) (close-y of-rates at accepted listed) (field-y-under of-rates at accepted listed full-reach g-full h-full)
 
   pub z-rate-most : (n : ℕ) → In n (field-z rounded of-rates at) → n ≤ 2 ^ 38 * ONE
-  z-rate-most = most (2 ^ 57) (2 ^ 38) (lit≤ tt) _ _ _ (field-z-image size-hom of-rates at) (close-z of-rates at accepted listed) (field-z-under of-rates at accepted listed full-reach g-full h-full)
+  z-rate-most = most (15 * 2 ^ 54) (2 ^ 38) (lit≤ tt) _ _ _ (field-z-image size-hom of-rates at) (close-z of-rates at accepted listed) (field-z-under of-rates at accepted listed full-reach g-full h-full)

@@ -1,11 +1,11 @@
 -- What every answer of the rates has: no rate is infinite; and 21 is due exactly where H is zero, since no other divisor is zero then. Assumes nothing.
 use mathlib.Core.Path.{_≡_, refl, sym, ap, _∙_, subst}
 use mathlib.Core.Bool.{Bool, true, false, _||_}
-use Prim.Native.Nat.{ℕ, _+_, _*_, _^_, _≤_, _<_}
+use Prim.Native.Nat.{ℕ, zero, suc, _+_, _*_, _^_, _≤_, _<_}
 use native.Mathlib.Nat.{le-of-eq, le-trans, lt-of-lt-of-le, mul-le-mul-right, mul-one}
 use lib.Dec.{T, lit≤, lit<}
 use lib.IntN.{ℤ}
-use lib.Ieee.{Float, binary32, fits, ofBits, eq, mul}
+use lib.Ieee.{Float, binary32, fits, ofBits, ofInt, eq, mul, round}
 use lib.Ieee.Fits.{add-fits, sub-fits, div-fits, cond-fits}
 use lib.Ieee.Positive.{positive, positive-of-value}
 use lib.Ieee.Scale.{finite}
@@ -19,7 +19,7 @@ use Rattle.models.specs.Epochs.{epochOffset, epochYear}
 use Rattle.models.specs.Errors.{errorSays}
 use Rattle.sums.specs.Arithmetic.{rounded}
 use Rattle.sums.specs.Paths.{small-sine}
-use Rattle.sums.specs.Recurrence.{pole-y, total}
+use Rattle.sums.specs.Recurrence.{Input, lit, pole-y, total}
 use Rattle.synthesis.specs.Sum.{inputs}
 use Rattle.strengths.specs.declared.GeomagneticField.{GeomagneticField}
 use Rattle.strengths.specs.Strengths.{fOf, hOf, usable}
@@ -39,6 +39,11 @@ use Rattle.rates.proofs.Ceiling.{x-rate-most, y-rate-most, z-rate-most}
 use Rattle.rates.proofs.Finite.{Strong, four-finite}
 
 -- ---- X, Y and Z are f32
+total-fits : (i : Input Float) (f : ℕ → Float) (k : ℕ) → T (fits binary32 (total rounded i f k))
+unfolding total rounded lit ofInt round fits
+total-fits i f zero = tt
+total-fits i f (suc k) = add-fits binary32 _ _
+
 module _ (a : Asked) (e : EpochOffset) where
   x-fits : T (fits binary32 (field-x rounded a e))
   unfolding field-x turn-x rounded
@@ -49,8 +54,8 @@ module _ (a : Asked) (e : EpochOffset) where
   z-fits = sub-fits binary32 _ _
 
   y-fits : T (fits binary32 (field-y rounded a e))
-  unfolding field-y rounded pole-y total
-  y-fits = cond-fits binary32 (small-sine (inputs rounded (handed a e) .sin-theta)) _ _ (add-fits binary32 _ _) (div-fits binary32 _ _)
+  unfolding field-y pole-y rounded
+  y-fits = cond-fits binary32 (small-sine (inputs rounded (handed a e) .sin-theta)) _ _ (total-fits _ _ _) (div-fits binary32 _ _)
 
 -- a component of a field that passes the test of refusal 12, in units
 record Part (f : Float) : Type 0 where

@@ -1,11 +1,12 @@
 -- What Field has answered for passes with the rates in the place of the coefficients too: Sum refuses nothing of it, and its X, Y and Z keep the distance of demand 3. Assumes nothing.
-use mathlib.Core.Path.{_≡_, refl, ap, _∙_}
+use mathlib.Core.Path.{_≡_, refl, sym, ap, _∙_}
 use mathlib.Core.Bool.{true, false}
 use mathlib.Core.List.{List, [], _∷_}
 use native.Mathlib.Omega.{arith}
 use Prim.Native.Nat.{_*_, _≤_}
 use lib.Dec.{T, lit<}
 use lib.IntN.{ℤ, pos}
+use lib.ListN.{length}
 use lib.Ieee.{Float, nan, inf, fin, up, down, ofBits, le, lt, eq}
 use lib.Ieee.Fits.{and-i, and-l, and-r, down-pos}
 use lib.Ieee.Order.{le-of-values}
@@ -59,7 +60,9 @@ module _ (a : Asked) (year day : ℤ) (v : GeomagneticField) (h : fieldSays a ye
   pub rated-listed : Listed (a .g-dot) (a .h-dot) (a .g-dot) (a .h-dot)
   rated-listed =
       let l = of-field .lists in
-      record { g-long = l .gd-long; h-long = l .hd-long; gd-long = l .gd-long; hd-long = l .hd-long; g-capped = all-raised (a .g-dot) (l .gd-capped); h-capped = all-raised (a .h-dot) (l .hd-capped); gd-capped = l .gd-capped; hd-capped = l .hd-capped }
+      let m = l .long in
+      let e : length (a .h-dot) ≡ length (a .g-dot) = m .hd-long ∙ sym (m .gd-long) in
+      record { long = record { g-long = rw (m .gd-long) (m .g-long); h-long = e; gd-long = refl; hd-long = e }; g-capped = all-raised (a .g-dot) (l .gd-capped); h-capped = all-raised (a .h-dot) (l .hd-capped); gd-capped = l .gd-capped; hd-capped = l .hd-capped }
 
   -- so there are X, Y and Z of the rates
   pub rated-dated : datedSays (rated a) (no-time a) ≡ answered (componentRates a)

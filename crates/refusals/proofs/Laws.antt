@@ -53,6 +53,8 @@ cases v =
     Refusal.WrongEnd (natAbs (whole v 0)) ∷
     Refusal.NoRoom ∷
     Refusal.ZeroDivisor ∷
+    Refusal.RateAboveEight ∷
+    Refusal.Degree ∷
     []
 
 -- the first refusal of the list that has the number n
@@ -83,6 +85,8 @@ read-back (Refusal.WrongLength i) = refl
 read-back (Refusal.WrongEnd i) = refl
 read-back Refusal.NoRoom = refl
 read-back Refusal.ZeroDivisor = refl
+read-back Refusal.RateAboveEight = refl
+read-back Refusal.Degree = refl
 
 line-of : {A : Type 0} → Paper A → Line
 line-of (answered a) = carries 0 [] []

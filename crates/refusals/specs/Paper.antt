@@ -41,6 +41,8 @@ line (Refusal.WrongLength i) = carries 18 [] (pos i ∷ [])
 line (Refusal.WrongEnd i) = carries 19 [] (pos i ∷ [])
 line Refusal.NoRoom = carries 20 [] []
 line Refusal.ZeroDivisor = carries 21 [] []
+line Refusal.RateAboveEight = carries 22 [] []
+line Refusal.Degree = carries 23 [] []
 
 -- what a call says: its answer, or a refusal's number with the floats and the whole numbers that it carries
 pub data Paper (A : Type 0) : Type 0 where

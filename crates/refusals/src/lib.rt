@@ -52,6 +52,10 @@ pub enum Refusal {
     NoRoom,
     // 21: H or F is zero, by which a yearly rate would be divided.
     ZeroDivisor,
+    // 22: a rate above degree 8 that is not zero, in the IGRF profile.
+    RateAboveEight,
+    // 23: lists of different degree.
+    Degree,
 }
 
 // A refusal's number.
@@ -80,6 +84,8 @@ pub fn number(k: Refusal) -> u32
         Refusal::WrongEnd { .. } => 19,
         Refusal::NoRoom => 20,
         Refusal::ZeroDivisor => 21,
+        Refusal::RateAboveEight => 22,
+        Refusal::Degree => 23,
     }
 }
 

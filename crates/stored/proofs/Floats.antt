@@ -13,8 +13,7 @@ use lib.Seq.{append-snoc, drop-cons, drop-drop, length-take-le, set-at, take-add
 use Rattle.exact.specs.Tests.{all-capped, capped}
 use Rattle.float32.specs.Bits.{bitsOf, floatOf}
 use Rattle.float32.proofs.Bits.{bits-back, bits-small, float-back, nan-read}
-use Rattle.tables.specs.Degree.{N-COEFF}
-use Rattle.stored.specs.Layout.{LIST, bytesOf, floatsIn, low-first, number}
+use Rattle.stored.specs.Layout.{bytesOf, floatsIn, listLength, low-first, number}
 use Rattle.stored.proofs.Bytes.{bytes-drop, bytes-take, low-back, number-back, number-small}
 
 -- ---- how long they are
@@ -26,9 +25,9 @@ length-bytes (x ∷ l) =
     let r = length-bytes l in
     omega (arith, e, r)
 
--- those of a list of a set
-pub list-long : (l : List Float) → length l ≡ N-COEFF → length (bytesOf l) ≡ LIST
-list-long l h = length-bytes l ∙ ap (λ (k : ℕ). 4 * k) h
+-- those of a list of k entries
+pub list-long : (k : ℕ) (l : List Float) → length l ≡ k → length (bytesOf l) ≡ listLength k
+list-long k l h = length-bytes l ∙ ap listLength h
 
 pub length-floats : (k : ℕ) (s : List ℕ) → length (floatsIn k s) ≡ k
 unfolding floatsIn

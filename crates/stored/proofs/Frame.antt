@@ -15,7 +15,7 @@ use Rattle.refusals.specs.declared.Refusal.the-variants.{WrongTag, WrongLength,
 use Rattle.refusals.specs.declared.Verdict.{Verdict}
 use Rattle.refusals.specs.declared.Verdict.the-variants as Verdict
 use Rattle.refusals.proofs.Laws.{check-accepted, both-accepted}
-use Rattle.stored.specs.Layout.{HEAD, contents, extent, fieldOf, fieldsOf, low-first, number}
+use Rattle.stored.specs.Layout.{HEAD, extent, fieldOf, fieldsOf, low-first, number}
 use Rattle.stored.specs.Stored.{fieldVerdict, fieldsVerdict}
 use Rattle.stored.proofs.Bytes.{bytes-drop, bytes-take, low-back, number-back}
 

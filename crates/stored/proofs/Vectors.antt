@@ -5,15 +5,23 @@ use lib.Ieee.{binary32, ofBits, toBits}
 use Rattle.refusals.specs.declared.Refusal.the-variants.{WrongTag, WrongLength, WrongEnd}
 use Rattle.refusals.specs.declared.Verdict.{Verdict}
 use Rattle.refusals.specs.declared.Verdict.the-variants as Verdict
-use Rattle.stored.specs.Layout.{STORED, bytesOf, content-at, field-at, low-first, number}
-use Rattle.stored.specs.Stored.{fieldsVerdict, frameVerdict}
+use Rattle.tables.specs.Degree.{N-COEFF}
+use Rattle.stored.specs.Layout.{LONGER, STORED, bytesOf, contentAt, fieldAt, low-first, number, storedLength}
+use Rattle.stored.specs.Stored.{entriesIn, fieldsVerdict, frameOf, frameVerdict}
 
 -- 1,457 bytes, and where the fields of the lists and the last content stand
 whole : STORED ≡ 1457
 whole = refl
 
-places : _≡_ (field-at 1 ∷ field-at 2 ∷ field-at 3 ∷ field-at 4 ∷ content-at 4 ∷ []) (5 ∷ 368 ∷ 731 ∷ 1094 ∷ 1097 ∷ [])
+places : _≡_ (fieldAt N-COEFF 1 ∷ fieldAt N-COEFF 2 ∷ fieldAt N-COEFF 3 ∷ fieldAt N-COEFF 4 ∷ contentAt N-COEFF 4 ∷ []) (5 ∷ 368 ∷ 731 ∷ 1094 ∷ 1097 ∷ [])
 places = refl
+
+-- 1,681 bytes with lists of 104 entries
+longer : storedLength LONGER ≡ 1681
+longer = refl
+
+longer-places : _≡_ (fieldAt LONGER 1 ∷ fieldAt LONGER 2 ∷ fieldAt LONGER 3 ∷ fieldAt LONGER 4 ∷ contentAt LONGER 4 ∷ []) (5 ∷ 424 ∷ 843 ∷ 1262 ∷ 1265 ∷ [])
+longer-places = refl
 
 -- 2025 in two bytes, and back
 year : low-first 2 2025 ≡ 233 ∷ 7 ∷ []
@@ -52,7 +60,15 @@ year-again : frameVerdict (1 ∷ 2 ∷ 0 ∷ 233 ∷ 7 ∷ 1 ∷ 2 ∷ 0 ∷ 233
 unfolding fieldsVerdict
 year-again = refl
 
--- the longer lists of Wish 8
+-- the longer lists of Wish 8: the reader of either form goes on, and a length of neither form is met by it too
 longer-list : frameVerdict (1 ∷ 2 ∷ 0 ∷ 233 ∷ 7 ∷ 2 ∷ 160 ∷ 1 ∷ []) ≡ Verdict.Refused (WrongLength 6)
 unfolding fieldsVerdict
 longer-list = refl
+
+longer-taken : frameOf (entriesIn (1 ∷ 2 ∷ 0 ∷ 233 ∷ 7 ∷ 2 ∷ 160 ∷ 1 ∷ [])) (1 ∷ 2 ∷ 0 ∷ 233 ∷ 7 ∷ 2 ∷ 160 ∷ 1 ∷ []) ≡ Verdict.Refused (WrongEnd 8)
+unfolding entriesIn fieldsVerdict
+longer-taken = refl
+
+neither-form : frameOf (entriesIn (1 ∷ 2 ∷ 0 ∷ 233 ∷ 7 ∷ 2 ∷ 161 ∷ 1 ∷ [])) (1 ∷ 2 ∷ 0 ∷ 233 ∷ 7 ∷ 2 ∷ 161 ∷ 1 ∷ []) ≡ Verdict.Refused (WrongLength 6)
+unfolding entriesIn fieldsVerdict
+neither-form = refl

@@ -1,10 +1,10 @@
--- The layout of a stored set (document 02, Wish 6): tagged fields. Tags, lengths and places stand here alone. Definitions only.
+-- The layout of a stored set (document 02, Wishes 6 and 8): tagged fields, of lists with k entries. Tags, lengths and places stand here alone. Definitions only.
 use mathlib.Core.List.{List, [], _∷_, _++_}
 use Prim.Native.Nat.{ℕ, zero, suc, _+_, _*_, _/_, _%_}
 use lib.ListN.{length, take, drop}
 use lib.Ieee.{Float}
 use Rattle.float32.specs.Bits.{bitsOf, floatOf}
-use Rattle.tables.specs.Degree.{N-COEFF}
+use Rattle.tables.specs.Degree.{N-COEFF, N-MAX, entries}
 
 -- ---- numbers and lists as bytes
 -- the first k bytes of a number, low byte first
@@ -28,16 +28,16 @@ floatsIn zero s = []
 floatsIn (suc k) s = floatOf (number (take 4 s)) ∷ floatsIn k (drop 4 s)
 
 -- ---- the fields
--- the epoch year has two bytes, and a list of 90 entries has 360
+-- the epoch year has two bytes, and a list has four for each of its k entries
 abbrev pub YEAR : ℕ
 YEAR = 2
 
-abbrev pub LIST : ℕ
-LIST = 4 * N-COEFF
+abbrev pub listLength : ℕ → ℕ
+listLength k = 4 * k
 
 -- the lengths of the contents, by their tags from 1 on: the epoch year, then g, h, g_dot and h_dot
-abbrev pub contents : List ℕ
-contents = YEAR ∷ LIST ∷ LIST ∷ LIST ∷ LIST ∷ []
+abbrev pub contentsOf : ℕ → List ℕ
+contentsOf k = YEAR ∷ listLength k ∷ listLength k ∷ listLength k ∷ listLength k ∷ []
 
 -- before a content stand its tag, in one byte, and its length, in two
 abbrev pub HEAD : ℕ
@@ -48,16 +48,24 @@ abbrev pub extent : List ℕ → ℕ
 extent [] = 0
 extent (n ∷ ns) = HEAD + n + extent ns
 
--- the whole set: 1457
-abbrev pub STORED : ℕ
-STORED = extent contents
+-- the whole set: 1457 for lists of 90 entries, 1681 for lists of 104
+abbrev pub storedLength : ℕ → ℕ
+storedLength k = extent (contentsOf k)
 
 -- where the field of tag i + 1 stands, and its content
-abbrev pub field-at : ℕ → ℕ
-field-at i = extent (take i contents)
+abbrev pub fieldAt : ℕ → ℕ → ℕ
+fieldAt k i = extent (take i (contentsOf k))
 
-abbrev pub content-at : ℕ → ℕ
-content-at i = field-at i + HEAD
+abbrev pub contentAt : ℕ → ℕ → ℕ
+contentAt k i = fieldAt k i + HEAD
+
+-- the entries of the longer list, that of degree 13: 104
+abbrev pub LONGER : ℕ
+LONGER = entries N-MAX
+
+-- the length of the form with lists of 90 entries, that of degree 12
+abbrev pub STORED : ℕ
+STORED = storedLength N-COEFF
 
 -- a field: tag, length, content
 abbrev pub fieldOf : ℕ → List ℕ → List ℕ

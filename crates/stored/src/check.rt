@@ -1,21 +1,24 @@
-// The checks of a stored set's bytes: refusals 17, 18 and 19, then 7.
+// The checks of a stored set's bytes: refusals 17, 18 and 19, then 23 and 7.
 use crate::layout;
+use crate::layout::ENTRY;
 use crate::layout::FIELDS;
 use crate::layout::HEAD;
 use crate::take;
 use refusals::Refusal;
 use refusals::Verdict;
+use tables::N_COEFF;
+use tables::N_COEFF_MAX;
 ghost use mathlib.Core.Path.{_≡_};
 ghost use Prim.Native.Nat.{_≤_};
 ghost use lib.ListN.{length};
-ghost use Rattle.lists.specs.Sets.{Ninety, lists-of, setVerdict};
-ghost use Rattle.stored.specs.Layout.{LIST, STORED};
-ghost use Rattle.stored.specs.Stored.{fieldVerdict, frameVerdict, setIn, storedVerdict};
+ghost use Rattle.lists.specs.Sets.{lists-of, setVerdict};
+ghost use Rattle.stored.specs.Layout.{LONGER, listLength, storedLength};
+ghost use Rattle.stored.specs.Stored.{Each, entriesIn, fieldVerdict, formVerdict, frameOf, setOf, verdictOf};
 
 // One field. The place of its tag is `at`.
 fn field(bytes: &[u8], at: usize, tag: usize, n: usize) -> Verdict
-    requires { ⌜ at ≤ STORED ⌝ }
-    requires { ⌜ n ≤ LIST ⌝ }
+    requires { ⌜ at ≤ storedLength LONGER ⌝ }
+    requires { ⌜ n ≤ listLength LONGER ⌝ }
     ensures { λ r. ⌜ r ≡ fieldVerdict tag n at (now (bytes .entry)) ⌝ }
 {
     let end = bytes.len();
@@ -38,13 +41,14 @@ fn field(bytes: &[u8], at: usize, tag: usize, n: usize) -> Verdict
 }
 
 // Every field, and nothing after the last.
-fn framed(bytes: &[u8]) -> Verdict
-    ensures { λ r. ⌜ r ≡ frameVerdict (now (bytes .entry)) ⌝ }
+fn framed(bytes: &[u8], entries: usize) -> Verdict
+    requires { ⌜ «entries» ≤ LONGER ⌝ }
+    ensures { λ r. ⌜ r ≡ frameOf «entries» (now (bytes .entry)) ⌝ }
 {
     let mut at = 0usize;
     let mut i = 0usize;
     while i < FIELDS {
-        let n = layout::content_length(i);
+        let n = layout::content_length(entries, i);
         if let Verdict::Refused(k) = field(bytes, at, i + 1, n) {
             return Verdict::Refused(k);
         }
@@ -57,34 +61,65 @@ fn framed(bytes: &[u8]) -> Verdict
     Verdict::Accepted
 }
 
+// How many entries a list has, by the length of the first.
+fn entries_in(bytes: &[u8]) -> usize
+    ensures { λ r. ⌜ r ≡ entriesIn (now (bytes .entry)) ⌝ }
+    ensures { λ r. ⌜ r ≤ LONGER ⌝ }
+{
+    if bytes.len() < layout::G + HEAD {
+        return N_COEFF;
+    }
+    if take::two_at(bytes, layout::G + 1) == ENTRY * N_COEFF_MAX {
+        return N_COEFF_MAX;
+    }
+    N_COEFF
+}
+
+// Either form, then its degree against that of lists with n entries.
+pub fn form(bytes: &[u8], n: usize) -> Verdict
+    ensures { λ r. ⌜ r ≡ formVerdict n (now (bytes .entry)) ⌝ }
+{
+    let entries = entries_in(bytes);
+    if let Verdict::Refused(k) = framed(bytes, entries) {
+        return Verdict::Refused(k);
+    }
+    if n != entries {
+        return Verdict::Refused(Refusal::Degree);
+    }
+    Verdict::Accepted
+}
+
 // The entries' caps. The lists are the caller's own, and not yet those that a user lent.
 fn capped(
     bytes: &[u8],
+    entries: usize,
     g: &mut [f32],
     h: &mut [f32],
     g_dot: &mut [f32],
     h_dot: &mut [f32],
 ) -> Verdict
-    requires { ⌜ STORED ≤ length (now bytes) ⌝ }
-    requires { ⌜ Ninety (lists-of (now g) (now h) (now «g_dot») (now «h_dot»)) ⌝ }
-    ensures { λ r. ⌜ r ≡ setVerdict (setIn (now (bytes .entry)) .lists) ⌝ }
+    requires { ⌜ storedLength «entries» ≤ length (now bytes) ⌝ }
+    requires { ⌜ Each «entries» (lists-of (now g) (now h) (now «g_dot») (now «h_dot»)) ⌝ }
+    ensures { λ r. ⌜ r ≡ setVerdict (setOf «entries» (now (bytes .entry)) .lists) ⌝ }
 {
-    take::lists(bytes, g, h, g_dot, h_dot);
+    take::lists(bytes, entries, g, h, g_dot, h_dot);
     lists::check_caps(g, h, g_dot, h_dot)
 }
 
 pub fn checked(
     bytes: &[u8],
+    entries: usize,
     g: &mut [f32],
     h: &mut [f32],
     g_dot: &mut [f32],
     h_dot: &mut [f32],
 ) -> Verdict
-    requires { ⌜ Ninety (lists-of (now g) (now h) (now «g_dot») (now «h_dot»)) ⌝ }
-    ensures { λ r. ⌜ r ≡ storedVerdict (now (bytes .entry)) ⌝ }
+    requires { ⌜ «entries» ≤ LONGER ⌝ }
+    requires { ⌜ Each «entries» (lists-of (now g) (now h) (now «g_dot») (now «h_dot»)) ⌝ }
+    ensures { λ r. ⌜ r ≡ verdictOf «entries» (now (bytes .entry)) ⌝ }
 {
-    if let Verdict::Refused(k) = framed(bytes) {
+    if let Verdict::Refused(k) = framed(bytes, entries) {
         return Verdict::Refused(k);
     }
-    capped(bytes, g, h, g_dot, h_dot)
+    capped(bytes, entries, g, h, g_dot, h_dot)
 }

@@ -1,14 +1,13 @@
 // Numbers and lists of bytes.
 use crate::layout;
+use crate::layout::ENTRY;
 use crate::layout::HEAD;
-use tables::N_COEFF;
 ghost use mathlib.Core.Path.{_≡_};
 ghost use Prim.Native.Nat.{_+_, _≤_, _<_};
 ghost use lib.ListN.{length, take, drop};
-ghost use Rattle.tables.specs.Degree.{N-COEFF};
-ghost use Rattle.lists.specs.Sets.{Ninety, lists-of};
-ghost use Rattle.stored.specs.Layout.{LIST, STORED, floatsIn, number};
-ghost use Rattle.stored.specs.Stored.{setIn};
+ghost use Rattle.lists.specs.Sets.{lists-of};
+ghost use Rattle.stored.specs.Layout.{floatsIn, listLength, number, storedLength};
+ghost use Rattle.stored.specs.Stored.{Each, setOf};
 
 pub fn two_at(bytes: &[u8], at: usize) -> usize
     requires { ⌜ at + 2 ≤ length (now bytes) ⌝ }
@@ -32,26 +31,35 @@ fn four_at(bytes: &[u8], at: usize) -> u32
 }
 
 // The list whose content begins at `at`.
-fn list(bytes: &[u8], at: usize, to: &mut [f32])
-    requires { ⌜ at + LIST ≤ length (now bytes) ⌝ }
-    requires { ⌜ length (now to) ≡ N-COEFF ⌝ }
-    ensures { λ _. ⌜ now (to .exit) ≡ floatsIn N-COEFF (drop at (now (bytes .entry))) ⌝ }
+fn list(bytes: &[u8], at: usize, entries: usize, to: &mut [f32])
+    requires { ⌜ at + listLength «entries» ≤ length (now bytes) ⌝ }
+    requires { ⌜ length (now to) ≡ «entries» ⌝ }
+    ensures { λ _. ⌜ now (to .exit) ≡ floatsIn «entries» (drop at (now (bytes .entry))) ⌝ }
 {
     let mut i = 0usize;
-    while i < N_COEFF {
-        to[i] = float32::from_bits(four_at(bytes, at + 4 * i));
+    while i < entries {
+        to[i] = float32::from_bits(four_at(bytes, at + ENTRY * i));
         i += 1;
     }
 }
 
 // The four lists of a set.
-pub fn lists(bytes: &[u8], g: &mut [f32], h: &mut [f32], g_dot: &mut [f32], h_dot: &mut [f32])
-    requires { ⌜ STORED ≤ length (now bytes) ⌝ }
-    requires { ⌜ Ninety (lists-of (now g) (now h) (now «g_dot») (now «h_dot»)) ⌝ }
-    ensures { λ _. ⌜ lists-of (now (g .exit)) (now (h .exit)) (now («g_dot» .exit)) (now («h_dot» .exit)) ≡ setIn (now (bytes .entry)) .lists ⌝ }
+pub fn lists(
+    bytes: &[u8],
+    entries: usize,
+    g: &mut [f32],
+    h: &mut [f32],
+    g_dot: &mut [f32],
+    h_dot: &mut [f32],
+)
+    requires { ⌜ storedLength «entries» ≤ length (now bytes) ⌝ }
+    requires { ⌜ Each «entries» (lists-of (now g) (now h) (now «g_dot») (now «h_dot»)) ⌝ }
+    ensures { λ _. ⌜ lists-of (now (g .exit)) (now (h .exit)) (now («g_dot» .exit)) (now («h_dot» .exit)) ≡ setOf «entries» (now (bytes .entry)) .lists ⌝ }
 {
-    list(bytes, layout::G + HEAD, g);
-    list(bytes, layout::H + HEAD, h);
-    list(bytes, layout::G_DOT + HEAD, g_dot);
-    list(bytes, layout::H_DOT + HEAD, h_dot);
+    let first = layout::G + HEAD;
+    let n = HEAD + ENTRY * entries;
+    list(bytes, first, entries, g);
+    list(bytes, first + n, entries, h);
+    list(bytes, first + 2 * n, entries, g_dot);
+    list(bytes, first + 3 * n, entries, h_dot);
 }

@@ -8,5 +8,6 @@ pub mod Images
 pub mod SameLaws
 pub mod Kept
 pub mod ZeroSign
+pub mod Between
 pub mod Stored
 pub mod Distance

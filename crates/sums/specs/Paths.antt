@@ -16,6 +16,10 @@ use Rattle.sums.specs.Recurrence.{Input, coefficient, pole-x, pole-y, po
 abbrev pub nought : Float
 nought = fin false 0 (pos 0)
 
+-- the years between two sets
+abbrev pub five : Float
+five = ofBits binary32 0x40a00000
+
 -- the entry of degree n and order m (coeff_index)
 abbrev pub at : List Float → ℕ → ℕ → Float
 at l n m = getD l (place n m - 1) nought
@@ -23,6 +27,10 @@ at l n m = getD l (place n m - 1) nought
 -- a coefficient at the date, of two lists: main + offset·rate
 abbrev pub dated : {A : Type 0} → Arithmetic A → List Float → List Float → Float → ℕ → ℕ → A
 dated o main rate t n m = coefficient o (o .num (at main n m)) (o .num (at rate n m)) (o .num t)
+
+-- the same between two lists that are five years apart: first + offset·((second - first) / 5)
+abbrev pub between : {A : Type 0} → Arithmetic A → List Float → List Float → Float → ℕ → ℕ → A
+between o first second t n m = coefficient o (o .num (at first n m)) (o .over (o .less (o .num (at second n m)) (o .num (at first n m))) five) (o .num t)
 
 -- a place, the coefficients at the date by degree and order, Schmidt's table and the factors K
 unfoldable pub placed : {A : Type 0} → Float → Float → Float → Float → Float → (ℕ → ℕ → A) → (ℕ → ℕ → A) → Input A

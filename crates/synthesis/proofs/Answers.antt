@@ -1,39 +1,46 @@
 -- The two paths, the ways to an answer, and what an answer says of what is lent.
 use mathlib.Core.Path.{_≡_, refl, sym, ap, subst, _∙_}
 use mathlib.Core.Bool.{Bool, true, false, cond}
-use lib.ListN.{length}
+use mathlib.Core.List.{List}
+use Prim.Native.Nat.{ℕ}
 use lib.Dec.{T}
+use lib.ListN.{length}
+use Rattle.tables.specs.Degree.{degreeOf}
+use Rattle.tables.proofs.Degrees.{degree-high, degree-low}
 use lib.Ieee.{Float, binary32, ofBits, lt, div}
 use lib.Ieee.Bits.{is-true}
 use Rattle.refusals.specs.Paper.{Paper, answered, paper, told}
-use Rattle.refusals.proofs.Laws.{check-accepted, paper-one, no-answer, answered-one, told-answered}
-use Rattle.refusals.specs.declared.Refusal.the-variants.{Length}
+use Rattle.refusals.proofs.Laws.{both-accepted, paper-one, no-answer, answered-one, told-answered}
 use Rattle.refusals.specs.declared.Refusal.{Refusal}
 use Rattle.refusals.specs.declared.Verdict.{Verdict}
 use Rattle.refusals.specs.declared.Verdict.the-variants as Verdict
-use Rattle.lists.specs.Lists.{lengthsVerdict, listsVerdict, long}
-use Rattle.lists.proofs.Checked.{each-long, listed}
+use Rattle.lists.specs.Lists.{Long, lengthsVerdict, listsVerdict}
+use Rattle.lists.proofs.Checked.{listed}
 use Rattle.synthesis.proofs.NumberChecks.{numbered}
-use Rattle.tables.specs.Degree.{N-COEFF, N-MAX}
 use Rattle.synthesis.specs.declared.Xyz.{Xyz}
 use Rattle.synthesis.specs.declared.SumAnswer.{SumAnswer}
 use Rattle.synthesis.specs.declared.SumAnswer.the-variants as Answer
-use Rattle.synthesis.specs.Sum.{Lent, SumAccepted, SumClose, inputs, numbersVerdict, offset-ok, ratio-ok, said, sumSays, summedSays, uncappedSays, valueOf}
+use Rattle.synthesis.specs.Sum.{Lent, SumAccepted, SumClose, degree, inputs, numbersVerdict, offset-ok, ratio-ok, said, sumSays, summedSays, uncappedSays, valueOf}
 use Rattle.sums.specs.Paths.{placed, small-sine}
 use Rattle.synthesis.proofs.Demand.{close}
-use Rattle.synthesis.specs.Code.{general, nearPole}
+use Rattle.synthesis.specs.Code.{OfDegree, general, nearPole}
 use Rattle.sums.specs.Arithmetic.{rounded}
 use Rattle.exact.specs.Tests.{abs, circle}
 
--- ---- the two paths
-module _ (a : Lent) (u : Float) (eu : u ≡ abs (a .sin-theta)) where
-  pub value-pole : lt u (ofBits binary32 0x3a83126f) ≡ true → (v : Xyz) → v ≡ nearPole (inputs rounded a) N-MAX → v ≡ valueOf a
-  unfolding valueOf small-sine inputs placed
-  value-pole n v e = let s : lt (abs (a .sin-theta)) (ofBits binary32 0x3a83126f) ≡ true = rw eu at n in rw (s, e)
+-- ---- the two paths, of the degree of the lists
+-- lists that have the entries of the degree
+pub of-degree : (top : ℕ) (g h gd hd : List Float) → top ≡ degreeOf (length g) → Long g h gd hd → OfDegree top g h gd hd
+of-degree top g h gd hd e l =
+    rw e (degree-low (length g), degree-high (length g), l .g-long, l .h-long ∙ l .g-long, l .gd-long ∙ l .g-long, l .hd-long ∙ l .g-long)
 
-  pub value-general : lt u (ofBits binary32 0x3a83126f) ≡ false → (r : Xyz) → r ≡ general (inputs rounded a) N-MAX → record { x = r .x; y = div binary32 (r .y) (a .sin-theta); z = r .z } ≡ valueOf a
+module _ (a : Lent) (top : ℕ) (et : top ≡ degree a) (u : Float) (eu : u ≡ abs (a .sin-theta)) where
+  pub value-pole : lt u (ofBits binary32 0x3a83126f) ≡ true → (v : Xyz) → v ≡ nearPole (inputs rounded a) top → v ≡ valueOf a
+  unfolding valueOf small-sine inputs placed
+  value-pole n v e = let s : lt (abs (a .sin-theta)) (ofBits binary32 0x3a83126f) ≡ true = rw eu at n in rw (s, e, et)
+
+  pub value-general : lt u (ofBits binary32 0x3a83126f) ≡ false → (r : Xyz) → r ≡ general (inputs rounded a) top → record { x = r .x; y = div binary32 (r .y) (a .sin-theta); z = r .z } ≡ valueOf a
   unfolding valueOf small-sine inputs placed rounded
-  value-general n r e = let s : lt (abs (a .sin-theta)) (ofBits binary32 0x3a83126f) ≡ false = rw eu at n in rw (s, e)
+  value-general n r e = let s : lt (abs (a .sin-theta)) (ofBits binary32 0x3a83126f) ≡ false = rw eu at n in rw (s, e, et)
 
 -- ---- the ways to an answer
 abbrev of-numbers : Lent → Verdict
@@ -65,17 +72,17 @@ module _ (look : Bool) (a : Lent) where
     pub summed : of-lists-by look a ≡ Verdict.Accepted → (x : Xyz) → x ≡ valueOf a → answered x ≡ saysBy look a
     summed e x h = rw (says-by look a, n, e, h)
 
--- lists that neither refuses are long enough
-pub long-by : (look : Bool) (a : Lent) → of-lists-by look a ≡ Verdict.Accepted → (length (a .g) ≡ N-COEFF) × (length (a .h) ≡ N-COEFF) × (length (a .g-dot) ≡ N-COEFF) × (length (a .h-dot) ≡ N-COEFF)
-unfolding listsVerdict lengthsVerdict
-long-by true a e = each-long (a .g) (a .h) (a .g-dot) (a .h-dot) (check-accepted (long (a .g) (a .h) (a .g-dot) (a .h-dot)) Length _ e .0)
-long-by false a e = each-long (a .g) (a .h) (a .g-dot) (a .h-dot) (check-accepted (long (a .g) (a .h) (a .g-dot) (a .h-dot)) Length _ e .0)
+-- lists that neither refuses are of one degree
+pub lengths-by : (look : Bool) (a : Lent) → of-lists-by look a ≡ Verdict.Accepted → lengthsVerdict (a .g) (a .h) (a .g-dot) (a .h-dot) ≡ Verdict.Accepted
+unfolding listsVerdict
+lengths-by true a e = both-accepted (lengthsVerdict (a .g) (a .h) (a .g-dot) (a .h-dot)) _ e .0
+lengths-by false a e = e
 
 module _ (a : Lent) where
   -- where the lists pass, it makes no difference whether they are looked at
   pub uncapped-same : of-lists a ≡ Verdict.Accepted → uncappedSays a ≡ sumSays a
-  unfolding sumSays uncappedSays listsVerdict lengthsVerdict
-  uncapped-same e = rw (check-accepted (long (a .g) (a .h) (a .g-dot) (a .h-dot)) Length _ e .0, check-accepted (long (a .g) (a .h) (a .g-dot) (a .h-dot)) Length _ e .1) refl
+  unfolding sumSays uncappedSays
+  uncapped-same e = rw (lengths-by true a e, e) refl
 
   -- numbers that pass: Sum says what its lists say
   pub numbers-pass : T (circle (a .sin-theta) (a .cos-theta)) → T (circle (a .sin-lambda) (a .cos-lambda)) → T (ratio-ok (a .ratio)) → T (offset-ok (a .offset)) → sumSays a ≡ told (of-lists a) (answered (valueOf a))

@@ -13,7 +13,8 @@ use Rattle.exact.specs.Exact.{Exact, size}
 use Rattle.exact.proofs.Sizes.{leaf, size-leaf}
 use Rattle.exact.proofs.Ranks.{Leaf, Nr}
 use Rattle.exact.proofs.Circle.{circle-leaf, circled}
-use Rattle.tables.specs.Degree.{N-MAX, place}
+use Rattle.tables.specs.Degree.{place}
+use Rattle.tables.proofs.Degrees.{degree-high}
 use Rattle.sums.specs.Arithmetic.{Arithmetic, rounded, sizes, unrounded}
 use Rattle.sums.specs.Paths.{at, dated, nought, placed, small-sine}
 use Rattle.sums.proofs.Keeps.{Divides, Keeps, rounded-keeps}
@@ -24,7 +25,7 @@ use Rattle.sums.proofs.Images.{dated-related, hom-related, placed-alike, size-h
 use Rattle.sums.proofs.Stored.{k-near, schmidt-near}
 use Rattle.sums.proofs.Distance.{divides, path-x-within, path-y-within, path-z-within}
 use Rattle.lists.specs.Lists.{main-cap, rate-cap}
-use Rattle.synthesis.specs.Sum.{Lent, SumAccepted, SumClose, inputs, offset-ok, ratio-ok, sum-x, sum-y, sum-z, valueOf}
+use Rattle.synthesis.specs.Sum.{Lent, SumAccepted, SumClose, degree, inputs, offset-ok, ratio-ok, sum-x, sum-y, sum-z, valueOf}
 
 -- ---- sizes from the checks
 capped-at : (cap : Float) (l : List Float) (j : ℕ) → T (capped cap nought) → T (all-capped cap l) → T (capped cap (getD l j nought))
@@ -50,15 +51,15 @@ rate-nought : T (capped rate-cap nought)
 unfolding capped ofBits lib.Ieee.le lib.Ieee.lt lib.Ieee.eq
 rate-nought = tt
 
-ratio-leaf : (x : Float) → T (ratio-ok x) → Leaf 2 x
+pub ratio-leaf : (x : Float) → T (ratio-ok x) → Leaf 2 x
 unfolding ratio-ok ofBits
 ratio-leaf x t = leaf 2 false false 7 65 (negsuc 2) (negsuc 5) x (lit≤ tt) (lit≤ tt) t
 
-offset-leaf : (x : Float) → T (offset-ok x) → Leaf 5 x
+pub offset-leaf : (x : Float) → T (offset-ok x) → Leaf 5 x
 unfolding offset-ok ofBits
 offset-leaf x t = leaf 5 false false 0 5 (pos 0) (pos 0) x (lit≤ tt) (lit≤ tt) t
 
-main-at : (l : List Float) → T (all-capped main-cap l) → (n m : ℕ) → Leaf 65536 (at l n m)
+pub main-at : (l : List Float) → T (all-capped main-cap l) → (n m : ℕ) → Leaf 65536 (at l n m)
 main-at l t n m = main-leaf (at l n m) (capped-at main-cap l (place n m - 1) main-nought t)
 
 rate-at : (l : List Float) → T (all-capped rate-cap l) → (n m : ℕ) → Leaf 4096 (at l n m)
@@ -103,14 +104,14 @@ module _ (a : Lent) (w : SumAccepted a) where
   -- the three sums lie near the exact ones, for any two arithmetics of which one keeps near the other
   module _ {o : Arithmetic Float} {o' : Arithmetic Exact} (kept : Keeps o o') where
     pub sum-x-near : Nr sumA (sum-x o a) (sum-x o' a)
-    sum-x-near = path-x-near kept (inputs o a) (inputs o' a) (ok kept) N-MAX (lit≤ tt)
+    sum-x-near = path-x-near kept (inputs o a) (inputs o' a) (ok kept) (degree a) (degree-high _)
 
     pub sum-y-near : Nr eastA (sum-y o a) (sum-y o' a)
     unfolding inputs placed
-    sum-y-near = path-y-near kept (inputs o a) (inputs o' a) (ok kept) N-MAX (lit≤ tt) sine-divides
+    sum-y-near = path-y-near kept (inputs o a) (inputs o' a) (ok kept) (degree a) (degree-high _) sine-divides
 
     pub sum-z-near : Nr sumA (sum-z o a) (sum-z o' a)
-    sum-z-near = path-z-near kept (inputs o a) (inputs o' a) (ok kept) N-MAX (lit≤ tt)
+    sum-z-near = path-z-near kept (inputs o a) (inputs o' a) (ok kept) (degree a) (degree-high _)
 
 -- ---- a relation between two arithmetics that every operation keeps holds between the sums of what is lent
 module _ {A B : Type 0} {o : Arithmetic A} {o' : Arithmetic B} {R : A → B → Type 0} (k : Related o o' R) (a : Lent) where
@@ -125,13 +126,13 @@ module _ {A B : Type 0} {o : Arithmetic A} {o' : Arithmetic B} {R : A → B → 
   same-sine = refl
 
   pub sum-x-related : R (sum-x o a) (sum-x o' a)
-  sum-x-related = path-x-related o o' R k (inputs o a) (inputs o' a) same-sine alike N-MAX
+  sum-x-related = path-x-related o o' R k (inputs o a) (inputs o' a) same-sine alike (degree a)
 
   pub sum-y-related : R (sum-y o a) (sum-y o' a)
-  sum-y-related = path-y-related o o' R k (inputs o a) (inputs o' a) same-sine alike N-MAX
+  sum-y-related = path-y-related o o' R k (inputs o a) (inputs o' a) same-sine alike (degree a)
 
   pub sum-z-related : R (sum-z o a) (sum-z o' a)
-  sum-z-related = path-z-related o o' R k (inputs o a) (inputs o' a) same-sine alike N-MAX
+  sum-z-related = path-z-related o o' R k (inputs o a) (inputs o' a) same-sine alike (degree a)
 
 -- ---- demand 3
 module _ (a : Lent) (w : SumAccepted a) where
@@ -142,7 +143,7 @@ module _ (a : Lent) (w : SumAccepted a) where
   unfolding valueOf
   close =
       record {
-        x = path-x-within (inputs rounded a) (inputs unrounded a) (inputs sizes a) (ok a w rounded-keeps) (same-sine size-related a) (alike size-related a) N-MAX (lit≤ tt);
-        y = path-y-within (inputs rounded a) (inputs unrounded a) (inputs sizes a) (ok a w rounded-keeps) (same-sine size-related a) (alike size-related a) N-MAX (lit≤ tt) (unfold inputs placed in sine-divides a w);
-        z = path-z-within (inputs rounded a) (inputs unrounded a) (inputs sizes a) (ok a w rounded-keeps) (same-sine size-related a) (alike size-related a) N-MAX (lit≤ tt);
+        x = path-x-within (inputs rounded a) (inputs unrounded a) (inputs sizes a) (ok a w rounded-keeps) (same-sine size-related a) (alike size-related a) (degree a) (degree-high _);
+        y = path-y-within (inputs rounded a) (inputs unrounded a) (inputs sizes a) (ok a w rounded-keeps) (same-sine size-related a) (alike size-related a) (degree a) (degree-high _) (unfold inputs placed in sine-divides a w);
+        z = path-z-within (inputs rounded a) (inputs unrounded a) (inputs sizes a) (ok a w rounded-keeps) (same-sine size-related a) (alike size-related a) (degree a) (degree-high _);
       }

@@ -12,7 +12,7 @@ use lib.ListN.{getD, length, replicate, getD-replicate}
 use lib.Ieee.{Float, nan, binary32, mul, ofBits}
 use Rattle.exact.proofs.Wholes.{lit-one, lit-zero}
 use Rattle.tables.specs.Tables.{schmidtAt, schmidtTable}
-use Rattle.tables.specs.Degree.{M-LEN, N-COEFF, N-LEGENDRE, N-MAX, place}
+use Rattle.tables.specs.Degree.{M-LEN, N-LEGENDRE, N-MAX, WMM-MAX, entries, place}
 use Rattle.tables.specs.Division.{kDivided, kOver}
 use Rattle.tables.specs.Rule.{kOf}
 use Rattle.tables.proofs.Factors.{k-whole, k-zero}
@@ -27,50 +27,43 @@ use Rattle.synthesis.specs.declared.terms.FourXyz.{FourXyz}
 use Rattle.sums.specs.Recurrence.{Input, coefficient, lit, power, total, x-sum, y-sum, z-sum}
 use Rattle.synthesis.specs.Sum.{Lent, inputs}
 use Rattle.sums.specs.Paths.{at, nought, placed}
-use Rattle.synthesis.specs.Code.{Apart, Filled, Fresh, Given, Sized, Started, W-LEN, Weighed, addDegree, anglesOf, cell, cellXyz, cells, cosAt, divisorAt, first, general, lane, laneStep, laneSums, laneTerms, laneTotal, loweredAt, nextK, none, pairAt, pdp, put, put4, put4Terms, rotated, rowSums, sinAt, squareAt, start, startAt, startsOf, termAt, termOf, totals, twoBack}
+use Rattle.synthesis.specs.Code.{Apart, Filled, Fresh, Given, OfDegree, Sized, Started, W-LEN, Weighed, addDegree, anglesOf, cell, cellXyz, cells, cosAt, divisorAt, first, general, lane, laneStep, laneSums, laneTerms, laneTotal, loweredAt, nextK, none, nothing, pairAt, pdp, put, put4, put4Terms, rotated, rowSums, sinAt, squareAt, start, startAt, startsOf, termAt, termOf, totals, twoBack}
 use Rattle.sums.specs.Arithmetic.{Pair, pair, rounded}
 use Rattle.synthesis.proofs.LaneLaws.{Plain, lane-begun, lane-next, lane-sums, none-back, two-back}
 use Rattle.sums.proofs.Step.{less-or, same-or}
 use Rattle.synthesis.proofs.RowsHold.{apart-rotate, put-other, put-row, put-same, put-sized}
 use Rattle.synthesis.proofs.TermsHold.{Block, block-next, block-put}
 use Rattle.synthesis.proofs.Filled.{first-get}
-use Rattle.synthesis.proofs.PlaceSizes.{least, most}
+use Rattle.synthesis.proofs.PlaceSizes.{inside, least, most}
 use Rattle.tables.proofs.TableStatement.{get-any, schmidt-entry}
 
 -- ---- lent lists by degree and order
-pub at-read : (l : List Float) (n m j : ℕ) → length l ≡ N-COEFF → 0 < n → n < M-LEN → m ≤ n → j ≡ place n m - 1 → getD l j nan ≡ at l n m
-at-read l n m j e z hn hm ej = rw ej (get-any l (place n m - 1) nan nought (omega (arith, most n hn, least n z)))
+pub at-read : (l : List Float) (top n m j : ℕ) → length l ≡ entries top → 0 < n → n ≤ top → m ≤ n → j ≡ place n m - 1 → getD l j nan ≡ at l n m
+at-read l top n m j e z hn hm ej = rw ej (get-any l (place n m - 1) nan nought (omega (arith, e, inside top n m hn hm, least n z)))
 
-module _ (a : Lent) (n m j : ℕ) (z : 0 < n) (hn : n < M-LEN) (hm : m ≤ n) (ej : j ≡ place n m - 1) where
-  pub g-read : length (a .g) ≡ N-COEFF → length (a .g-dot) ≡ N-COEFF → coefficient rounded (getD (a .g) j nan) (getD (a .g-dot) j nan) (a .offset) ≡ inputs rounded a .g n m
+module _ (a : Lent) (top n m j : ℕ) (L : OfDegree top (a .g) (a .h) (a .g-dot) (a .h-dot)) (z : 0 < n) (hn : n ≤ top) (hm : m ≤ n) (ej : j ≡ place n m - 1) where
+  pub g-read : coefficient rounded (getD (a .g) j nan) (getD (a .g-dot) j nan) (a .offset) ≡ inputs rounded a .g n m
   unfolding inputs placed rounded
-  g-read e e' = rw (at-read (a .g) n m j e z hn hm ej, at-read (a .g-dot) n m j e' z hn hm ej)
+  g-read = rw (at-read (a .g) top n m j (L .2) z hn hm ej, at-read (a .g-dot) top n m j (L .4) z hn hm ej)
 
-  pub h-read : length (a .h) ≡ N-COEFF → length (a .h-dot) ≡ N-COEFF → coefficient rounded (getD (a .h) j nan) (getD (a .h-dot) j nan) (a .offset) ≡ inputs rounded a .h n m
+  pub h-read : coefficient rounded (getD (a .h) j nan) (getD (a .h-dot) j nan) (a .offset) ≡ inputs rounded a .h n m
   unfolding inputs placed rounded
-  h-read e e' = rw (at-read (a .h) n m j e z hn hm ej, at-read (a .h-dot) n m j e' z hn hm ej)
+  h-read = rw (at-read (a .h) top n m j (L .3) z hn hm ej, at-read (a .h-dot) top n m j (L .5) z hn hm ej)
 
 -- ---- Schmidt's table by place
 pub s-place : (ss : List Float) (j n m : ℕ) → ss ≡ schmidtTable → (j ≡ place n m) × (j < N-LEGENDRE) → getD ss j nan ≡ schmidtAt (place n m)
 s-place ss j n m e h = rw (e, schmidt-entry j (h .1), h .0)
 
--- the four lists are 90 long
-pub record Long (a : Lent) : Type 0 where
-  pub g : length (a .g) ≡ N-COEFF
-  pub h : length (a .h) ≡ N-COEFF
-  pub g-dot : length (a .g-dot) ≡ N-COEFF
-  pub h-dot : length (a .h-dot) ≡ N-COEFF
-
 -- what is read at each order, from what is lent
-pub given : (a : Lent) (ss : List Float) (t : Angles) → Long a → ss ≡ schmidtTable → t ≡ anglesOf (a .sin-lambda) (a .cos-lambda)
-    → Given (inputs rounded a) ss (a .g) (a .h) (a .g-dot) (a .h-dot) (a .offset) (first lit M-LEN) (first squareAt M-LEN) (first divisorAt M-LEN) (t .sin) (t .cos)
+pub given : (a : Lent) (top : ℕ) (ss : List Float) (t : Angles) → OfDegree top (a .g) (a .h) (a .g-dot) (a .h-dot) → ss ≡ schmidtTable → t ≡ anglesOf (a .sin-lambda) (a .cos-lambda)
+    → Given (inputs rounded a) top ss (a .g) (a .h) (a .g-dot) (a .h-dot) (a .offset) (first lit M-LEN) (first squareAt M-LEN) (first divisorAt M-LEN) (t .sin) (t .cos)
 unfolding inputs placed anglesOf
-given a ss t L es et =
+given a top ss t L es et =
     record {
       K = refl;
       S = λ n m hn hm. rw es (schmidt-entry (place n m) (omega (arith, most n hn)));
-      g-is = λ n m z hn hm. g-read a n m (place n m - 1) z hn hm refl (L .g) (L .g-dot);
-      h-is = λ n m z hn hm. h-read a n m (place n m - 1) z hn hm refl (L .h) (L .h-dot);
+      g-is = λ n m z hn hm. g-read a top n m (place n m - 1) L z hn hm refl;
+      h-is = λ n m z hn hm. h-read a top n m (place n m - 1) L z hn hm refl;
       order = λ m h. first-get lit M-LEN m h;
       square = λ n h. first-get squareAt M-LEN n h;
       divisor = λ n h. first-get divisorAt M-LEN n h;
@@ -229,7 +222,7 @@ between-at f (suc zero) l h hl = first-get f M-LEN l hl
 between-at f (suc (suc zero)) l h hl = getD-replicate M-LEN l (ofBits binary32 0) nan hl ∙ lit-zero
 between-at f (suc (suc (suc k))) l h hl = absurd (omega arith)
 
-pub fresh-start : (i : Input Float) (c s : Float) (d : Starts) → c ≡ i .cos-theta → s ≡ i .sin-theta → d ≡ startsOf c s → Fresh i N-MAX (between (d .p)) (between (d .dp))
+pub fresh-start : (i : Input Float) (c s : Float) (d : Starts) → c ≡ i .cos-theta → s ≡ i .sin-theta → d ≡ startsOf c s → Fresh i WMM-MAX (between (d .p)) (between (d .dp))
 unfolding startsOf
 fresh-start i c s d ec es e =
     let p : ℕ → Float = λ m. startAt (i .cos-theta) (i .sin-theta) m .fst in
@@ -244,20 +237,20 @@ fresh-start i c s d ec es e =
 alike : (m n j : ℕ) → j + n ≡ m + N-MAX → ltb j N-MAX ≡ ltb m n
 alike m n j e = ⊎-elim (λ (h : m < n). lt-ltb j N-MAX (omega arith) ∙ sym (lt-ltb m n h)) (λ (h : n ≤ m). le-ltb j N-MAX (omega arith) ∙ sym (le-ltb m n h)) (less-or m n)
 
-module _ (i : Input Float) (cw sw ss g h g-dot h-dot : List Float) (time : Float) (os sq ds sin cos : List Float) (n : ℕ) (G : Given i ss g h g-dot h-dot time os sq ds sin cos) (W : Weighed i cw sw) (z : 0 < n) (hn : n < M-LEN) where
+module _ (i : Input Float) (cw sw ss g h g-dot h-dot : List Float) (time : Float) (os sq ds sin cos : List Float) (top n : ℕ) (G : Given i top ss g h g-dot h-dot time os sq ds sin cos) (W : Weighed i cw sw) (z : 0 < n) (ht : n ≤ top) (hn : n < M-LEN) where
   -- j is the place of lane m in the lists of weights
   lane-is : (m j : ℕ) (k : Float) (a b r : PDp) → 4 * (m / 4) < n → j + n ≡ m + N-MAX → j < W-LEN → k ≡ i .K n m → a ≡ pdp (lane i (n - 1) m) → b ≡ pdp (twoBack i n m)
       → r ≡ loweredAt j k cw sw a b → r ≡ pdp (lane i n m)
   unfolding laneStep
-  lane-is m j k a b r ht ej hj ek ea eb er =
-      let f : lane i n m ≡ laneStep i n m (lane i (n - 1) m) (twoBack i n m) = lane-next i n m z ht in
+  lane-is m j k a b r h4 ej hj ek ea eb er =
+      let f : lane i n m ≡ laneStep i n m (lane i (n - 1) m) (twoBack i n m) = lane-next i n m z h4 in
       er ∙ rw (ek, ea, eb, W .cos-theta j hj, W .sin-theta j hj, alike m n j ej) refl ∙ ap pdp (sym f)
 
   term-is : (m k : ℕ) (r : PDp) → m ≤ n → k ≡ place n m → r ≡ pdp (lane i n m) → termAt m k r ss g h g-dot h-dot time os sin cos ≡ laneTerms i n m
   unfolding termOf
   term-is m k r hm ek er =
       let m13 : m < M-LEN = omega arith in
-      rw (ek, er, G .order m m13, G .S n m hn hm, G .g-is n m z hn hm, G .h-is n m z hn hm, G .sin-is m m13, G .cos-is m m13)
+      rw (ek, er, G .order m m13, G .S n m hn hm, G .g-is n m z ht hm, G .h-is n m z ht hm, G .sin-is m m13, G .cos-is m m13)
 
   -- the division gives the next degree's factor
   factor-is : (m : ℕ) (k : Float) → m < M-LEN → k ≡ nextK os sq ds n m → k ≡ i .K (n + 1) m
@@ -269,7 +262,7 @@ module _ (i : Input Float) (cw sw ss g h g-dot h-dot : List Float) (time : Float
   term-of m k r v ek er ev hm = ev ∙ term-is m k r hm ek er
 
   -- one degree more of the four orders
-  module _ (m k j : ℕ) (a b r : Four) (f : FourK) (p d : List (List Float)) (q : Places) (hm : 4 * (m / 4) ≡ m) (l : m < n) (h3 : m + 3 < N-MAX) (ek : k ≡ place n m) (ej : j + n ≡ m + N-MAX)
+  module _ (m k j : ℕ) (a b r : Four) (f : FourK) (p d : List (List Float)) (q : Places) (hm : 4 * (m / 4) ≡ m) (l : m < n) (h3 : m + 3 < WMM-MAX) (ek : k ≡ place n m) (ej : j + n ≡ m + N-MAX)
       (C : Carried i m n a f) (R : Rows i m n m p d q)
       (eb : (b .r0 ≡ pdp (cells p d (q .prev2) m)) × (b .r1 ≡ pdp (cells p d (q .prev2) (m + 1))) × (b .r2 ≡ pdp (cells p d (q .prev2) (m + 2))) × (b .r3 ≡ pdp (cells p d (q .prev2) (m + 3))))
       (er : (r .r0 ≡ loweredAt j (f .k0) cw sw (a .r0) (b .r0)) × (r .r1 ≡ loweredAt (j + 1) (f .k1) cw sw (a .r1) (b .r1))
@@ -313,23 +306,23 @@ module _ (i : Input Float) (cw sw ss g h g-dot h-dot : List Float) (time : Float
     Made v = (v .v0 ≡ termAt m k (r .r0) ss g h g-dot h-dot time os sin cos) × (v .v1 ≡ termAt (m + 1) (k + 1) (r .r1) ss g h g-dot h-dot time os sin cos)
         × (v .v2 ≡ termAt (m + 2) (k + 2) (r .r2) ss g h g-dot h-dot time os sin cos) × (v .v3 ≡ termAt (m + 3) (k + 3) (r .r3) ss g h g-dot h-dot time os sin cos)
 
-    stored : (v : FourXyz) (t : List (List Float)) → Made v → Block i m n m t → Block i m (n + 1) m (put4Terms t k (v .v0) (v .v1) (v .v2) (v .v3))
+    stored : (v : FourXyz) (t : List (List Float)) → Made v → Block i top m n m t → Block i top m (n + 1) m (put4Terms t k (v .v0) (v .v1) (v .v2) (v .v3))
     stored v t e w =
         let k1 : k + 1 ≡ place n (m + 1) = omega arith in
         let k2 : k + 2 ≡ place n (m + 2) = omega arith in
         let k3 : k + 3 ≡ place n (m + 3) = omega arith in
         let s = most n hn in
-        block-next i m n _
-        (block-put i m n (m + 3) (m + 4) (k + 3) _ (v .v3) (omega arith) (omega arith) (omega arith) k3 (omega (arith, s, ek)) (term-of (m + 3) (k + 3) (r .r3) (v .v3) k3 r3-is (e .3))
-        (block-put i m n (m + 2) (m + 3) (k + 2) _ (v .v2) (omega arith) (omega arith) (omega arith) k2 (omega (arith, s, ek)) (term-of (m + 2) (k + 2) (r .r2) (v .v2) k2 r2-is (e .2))
-        (block-put i m n (m + 1) (m + 2) (k + 1) _ (v .v1) (omega arith) (omega arith) (omega arith) k1 (omega (arith, s, ek)) (term-of (m + 1) (k + 1) (r .r1) (v .v1) k1 r1-is (e .1))
-        (block-put i m n m (m + 1) k t (v .v0) (omega arith) (omega arith) refl ek (omega (arith, s, ek)) (term-of m k (r .r0) (v .v0) ek r0-is (e .0)) w))))
+        block-next i top m n _
+        (block-put i top m n (m + 3) (m + 4) (k + 3) _ (v .v3) (omega arith) (omega arith) (omega arith) k3 (omega (arith, s, ek)) (term-of (m + 3) (k + 3) (r .r3) (v .v3) k3 r3-is (e .3))
+        (block-put i top m n (m + 2) (m + 3) (k + 2) _ (v .v2) (omega arith) (omega arith) (omega arith) k2 (omega (arith, s, ek)) (term-of (m + 2) (k + 2) (r .r2) (v .v2) k2 r2-is (e .2))
+        (block-put i top m n (m + 1) (m + 2) (k + 1) _ (v .v1) (omega arith) (omega arith) (omega arith) k1 (omega (arith, s, ek)) (term-of (m + 1) (k + 1) (r .r1) (v .v1) k1 r1-is (e .1))
+        (block-put i top m n m (m + 1) k t (v .v0) (omega arith) (omega arith) refl ek (omega (arith, s, ek)) (term-of m k (r .r0) (v .v0) ek r0-is (e .0)) w))))
 
     -- what is carried, the rows and the terms, after that degree
     pub degree-on : (f' : FourK) (v : FourXyz) (p' d' : List (List Float)) (q' : Places) (t t' : List (List Float)) → NextFactors f'
         → (p' ≡ put4 p (q .cur) m (r .r0 .p) (r .r1 .p) (r .r2 .p) (r .r3 .p)) × (d' ≡ put4 d (q .cur) m (r .r0 .dp) (r .r1 .dp) (r .r2 .dp) (r .r3 .dp)) → q' ≡ rotated q
-        → Made v → t' ≡ put4Terms t k (v .v0) (v .v1) (v .v2) (v .v3) → Block i m n m t
-        → Carried i m (n + 1) r f' × Rows i m (n + 1) m p' d' q' × Block i m (n + 1) m t'
+        → Made v → t' ≡ put4Terms t k (v .v0) (v .v1) (v .v2) (v .v3) → Block i top m n m t
+        → Carried i m (n + 1) r f' × Rows i m (n + 1) m p' d' q' × Block i top m (n + 1) m t'
     degree-on f' v p' d' q' t t' ek' ep eq ev et B = (
       carried-on f' ek',
       rows-next i m n p d p' d' q q' r z (omega arith) r0-is r1-is r2-is r3-is (ep .0) (ep .1) eq R,
@@ -340,8 +333,18 @@ module _ (i : Input Float) (cw sw ss g h g-dot h-dot : List Float) (time : Float
   pub corner-is : (p d : List Float) (v : Xyz) → 4 * (n / 4) ≡ n → Started i p d → v ≡ termAt n (place n n) (pairAt p d n) ss g h g-dot h-dot time os sin cos → v ≡ laneTerms i n n
   corner-is p d v e s ev = ev ∙ term-is n (place n n) (pairAt p d n) (omega arith) refl (s n hn ∙ ap pdp (sym (lane-begun i n n (sym e))))
 
+  -- the orders 12 and 13 in degree 13, one step from where they start
+  pub last-is : (m : ℕ) (p d : List Float) (v : Xyz) → 4 * (m / 4) + 1 ≡ n → n ≡ N-MAX → m ≤ n → Started i p d
+      → v ≡ termAt m (place N-MAX m) (loweredAt m (ofBits binary32 0) cw sw (pairAt p d m) nothing) ss g h g-dot h-dot time os sin cos → v ≡ laneTerms i N-MAX m
+  last-is m p d v e en hm s ev =
+      let k : ofBits binary32 0 ≡ i .K n m = unfold ofBits in sym (rw (G .K) (k-zero n m (omega arith))) in
+      let a : pairAt p d m ≡ pdp (lane i (n - 1) m) = s m (omega arith) ∙ ap pdp (sym (lane-begun i (n - 1) m (omega arith))) in
+      let b : nothing ≡ pdp (twoBack i n m) = rw lit-zero (ap pdp (sym (none-back i n m (omega arith)))) in
+      let r : loweredAt m (ofBits binary32 0) cw sw (pairAt p d m) nothing ≡ pdp (lane i n m) = lane-is m m (ofBits binary32 0) (pairAt p d m) nothing _ (omega arith) (omega arith) (omega arith) k a b refl in
+      rw (sym en) (ev ∙ term-is m (place N-MAX m) _ hm (rw en refl) r)
+
 -- before the first degree of four orders
-pub carried-start : (i : Input Float) (m : ℕ) (p d : List (List Float)) (a : Four) → i .K ≡ kOf → 4 * (m / 4) ≡ m → m + 3 < N-MAX → Rows i m (m + 1) m p d places
+pub carried-start : (i : Input Float) (m : ℕ) (p d : List (List Float)) (a : Four) → i .K ≡ kOf → 4 * (m / 4) ≡ m → m + 3 < WMM-MAX → Rows i m (m + 1) m p d places
     → a .r0 ≡ pdp (cells p d 1 m) → a .r1 ≡ pdp (cells p d 1 (m + 1)) → a .r2 ≡ pdp (cells p d 1 (m + 2)) → a .r3 ≡ pdp (cells p d 1 (m + 3))
     → Carried i m (m + 1) a (record { k0 = ofBits binary32 0; k1 = ofBits binary32 0; k2 = ofBits binary32 0; k3 = ofBits binary32 0 })
 carried-start i m p d a K e h w e0 e1 e2 e3 =
@@ -364,8 +367,8 @@ total-same i f g zero h = refl
 total-same i f g (suc k) h = rw (total-same i f g k (λ m l. h m (omega arith)), h k (omega arith))
 
 -- the terms of all orders, added up
-pub added : (i : Input Float) (n k : ℕ) (t : List (List Float)) (acc : Xyz) → 0 < n → n < M-LEN → k ≡ place n 0 → Filled i 0 t → acc ≡ totals i (λ m. cellXyz t (k + m)) (n + 1) → acc ≡ laneSums i n
-added i n k t acc z hn ek f e =
+pub added : (i : Input Float) (top n k : ℕ) (t : List (List Float)) (acc : Xyz) → 0 < n → n ≤ top → k ≡ place n 0 → Filled i top 0 t → acc ≡ totals i (λ m. cellXyz t (k + m)) (n + 1) → acc ≡ laneSums i n
+added i top n k t acc z hn ek f e =
     let w : (l : ℕ) → l < n + 1 → cellXyz t (k + l) ≡ laneTerms i n l = λ l h. (let p : k + l ≡ place n l = omega arith in rw p (f .terms-are n l z (omega arith) (omega arith) (omega arith))) in
     e ∙
     rw (

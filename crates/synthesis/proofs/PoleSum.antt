@@ -20,9 +20,9 @@ use Rattle.sums.specs.Arithmetic.{pair, rounded}
 use Rattle.sums.specs.Recurrence.{Input, dpsn, legendre, lit, pole-angle, pole-east, pole-gc, pole-gs, pole-x, pole-x-row, pole-y, pole-z, pole-z-row, power, psn, quotient, total}
 use Rattle.sums.specs.Paths.{POLE-ORDERS, placed}
 use Rattle.synthesis.specs.Sum.{Lent, inputs}
-use Rattle.synthesis.specs.Code.{addPoleDegree, ghAt, nearPole, nextQ, nextRow, pdp, poleParts, termOf}
+use Rattle.synthesis.specs.Code.{OfDegree, addPoleDegree, ghAt, nearPole, nextQ, nextRow, pdp, poleParts, termOf}
 use Rattle.exact.proofs.Wholes.{lit-one, lit-zero}
-use Rattle.synthesis.proofs.GeneralSum.{Long, g-read, h-read, s-place}
+use Rattle.synthesis.proofs.GeneralSum.{g-read, h-read, s-place}
 use Rattle.synthesis.proofs.PlaceSizes.{most}
 use Rattle.synthesis.proofs.TurnedSign.{less-term}
 
@@ -57,8 +57,8 @@ unfolding addPoleDegree pole-x pole-y pole-z total rounded
 more-degrees i n = refl
 
 -- the coefficients of degree n and order m, from the lists
-dates : (a : Lent) (n m j : ℕ) → Long a → 0 < n → n < M-LEN → m ≤ n → j ≡ place n m - 1 → ghAt (a .g) (a .h) (a .g-dot) (a .h-dot) (a .offset) j ≡ gh (inputs rounded a .g n m) (inputs rounded a .h n m)
-dates a n m j L z hn hm e = ap₂ gh (g-read a n m j z hn hm e (L .g) (L .g-dot)) (h-read a n m j z hn hm e (L .h) (L .h-dot))
+dates : (a : Lent) (top n m j : ℕ) → OfDegree top (a .g) (a .h) (a .g-dot) (a .h-dot) → 0 < n → n ≤ top → m ≤ n → j ≡ place n m - 1 → ghAt (a .g) (a .h) (a .g-dot) (a .h-dot) (a .offset) j ≡ gh (inputs rounded a .g n m) (inputs rounded a .h n m)
+dates a top n m j L z hn hm e = ap₂ gh (g-read a top n m j L z hn hm e) (h-read a top n m j L z hn hm e)
 
 -- ---- the factors of the orders 0 and 1
 -- those of degree 1 are 0
@@ -88,22 +88,23 @@ unfolding inputs placed power quotient legendre row-before rounded pole-x pole-y
 start a = record { prev1-is = rw (lit-zero, lit-one); prev2-is = rw (lit-zero, lit-one); ar-is = refl; tot-is = rw lit-zero }
 
 -- the next degree; its order 0 stands at place j of the tables
-next : (a : Lent) (n j : ℕ) (ss : List Float) (prev1 prev2 new : PoleRow) (ar : Float) (tot tot' v : Xyz)
-    → Long a → suc n < M-LEN → j ≡ place (suc n) 0 → ss ≡ schmidtTable → Outer a n prev1 prev2 ar tot
+next : (a : Lent) (top n j : ℕ) (ss : List Float) (prev1 prev2 new : PoleRow) (ar : Float) (tot tot' v : Xyz)
+    → OfDegree top (a .g) (a .h) (a .g-dot) (a .h-dot) → suc n ≤ top → j ≡ place (suc n) 0 → ss ≡ schmidtTable → Outer a n prev1 prev2 ar tot
     → new ≡ nextRow (suc n) (kOf (suc n) 0) (kOf (suc n) 1) (a .cos-theta) (a .sin-theta) prev1 prev2
     → v ≡ poleParts new (ghAt (a .g) (a .h) (a .g-dot) (a .h-dot) (a .offset) (j - 1)) (ghAt (a .g) (a .h) (a .g-dot) (a .h-dot) (a .offset) j) (getD ss j nan) (getD ss (j + 1) nan) (record { sin = a .sin-lambda; cos = a .cos-lambda }) ar
     → tot' ≡ addPoleDegree tot (suc n) ar v
     → Outer a (suc n) new prev1 (mul binary32 ar (a .ratio)) tot'
 unfolding inputs placed power row-before rounded
-next a n j ss prev1 prev2 new ar tot tot' v L hn ej es o en ev et =
+next a top n j ss prev1 prev2 new ar tot tot' v L ht ej es o en ev et =
     let i = inputs rounded a in
     let z : 0 < suc n = omega arith in
+    let hn : suc n < M-LEN = omega (arith, L .1) in
     let h1 : 1 ≤ suc n = omega arith in
     let p0 : (j ≡ place (suc n) 0) × (j < N-LEGENDRE) = (ej, omega (arith, most (suc n) hn)) in
     let p1 : (j + 1 ≡ place (suc n) 1) × (j + 1 < N-LEGENDRE) = (omega arith, omega (arith, most (suc n) hn)) in
     let er : new ≡ row i (suc n) = en ∙ rw (o .prev1-is, o .prev2-is) (next-row i n) in
-    let d0 = dates a (suc n) 0 (j - 1) L z hn (omega arith) (omega arith) in
-    let d1 = dates a (suc n) 1 j L z hn h1 (omega arith) in
+    let d0 = dates a top (suc n) 0 (j - 1) L z ht (omega arith) (omega arith) in
+    let d1 = dates a top (suc n) 1 j L z ht h1 (omega arith) in
     let ep : v ≡ parts i (suc n) (power rounded i n) = ev ∙ rw (er, d0, d1, s-place ss j (suc n) 0 es p0, s-place ss (j + 1) (suc n) 1 es p1, o .ar-is) (parts-are i (suc n) (power rounded i n)) in
     record {
       prev1-is = er;
@@ -112,14 +113,14 @@ next a n j ss prev1 prev2 new ar tot tot' v L hn ej es o en ev et =
       tot-is = et ∙ rw (o .tot-is, o .ar-is, ep) (more-degrees i n);
     }
 
-pub next-degree : (a : Lent) (n j : ℕ) (ss : List Float) (prev1 prev2 new : PoleRow) (ar : Float) (tot tot' v : Xyz)
-    → 0 < n → Long a → n < M-LEN → j ≡ place n 0 → ss ≡ schmidtTable → Outer a (n - 1) prev1 prev2 ar tot
+pub next-degree : (a : Lent) (top n j : ℕ) (ss : List Float) (prev1 prev2 new : PoleRow) (ar : Float) (tot tot' v : Xyz)
+    → 0 < n → OfDegree top (a .g) (a .h) (a .g-dot) (a .h-dot) → n ≤ top → j ≡ place n 0 → ss ≡ schmidtTable → Outer a (n - 1) prev1 prev2 ar tot
     → new ≡ nextRow n (kOf n 0) (kOf n 1) (a .cos-theta) (a .sin-theta) prev1 prev2
     → v ≡ poleParts new (ghAt (a .g) (a .h) (a .g-dot) (a .h-dot) (a .offset) (j - 1)) (ghAt (a .g) (a .h) (a .g-dot) (a .h-dot) (a .offset) j) (getD ss j nan) (getD ss (j + 1) nan) (record { sin = a .sin-lambda; cos = a .cos-lambda }) ar
     → tot' ≡ addPoleDegree tot n ar v
     → Outer a (n + 1 - 1) new prev1 (mul binary32 ar (a .ratio)) tot'
-next-degree a zero j ss prev1 prev2 new ar tot tot' v z L hn ej es o en ev et = absurd (not-suc-le-zero z)
-next-degree a (suc n) j ss prev1 prev2 new ar tot tot' v z L hn ej es o en ev et =
+next-degree a top zero j ss prev1 prev2 new ar tot tot' v z L hn ej es o en ev et = absurd (not-suc-le-zero z)
+next-degree a top (suc n) j ss prev1 prev2 new ar tot tot' v z L hn ej es o en ev et =
     let u : suc n + 1 - 1 ≡ suc n = omega arith in
     let w : suc n - 1 ≡ n = omega arith in
-    rw u (next a n j ss prev1 prev2 new ar tot tot' v L hn ej es (rw w at o) en ev et)
+    rw u (next a top n j ss prev1 prev2 new ar tot tot' v L hn ej es (rw w at o) en ev et)

@@ -6,7 +6,7 @@ use mathlib.Core.Bool.{cond}
 use lib.Dec.{eqb, ltb}
 use lib.ListN.{getD, set, length}
 use lib.Ieee.{Float, nan, binary32, mul, ofBits}
-use Rattle.tables.specs.Degree.{M-LEN, N-LEGENDRE, N-MAX, place}
+use Rattle.tables.specs.Degree.{M-LEN, N-LEGENDRE, N-MAX, WMM-MAX, entries, place}
 use Rattle.tables.specs.Rule.{kOf}
 use Rattle.tables.specs.Division.{kDivisor, kOver}
 use Rattle.synthesis.specs.declared.Xyz.{Xyz}
@@ -93,6 +93,10 @@ laneStep i n m q r = lowered (weight (i .cos-theta) (lit 1) n m) (weight (i .sin
 -- two zeros: what the rows hold of a lane before its degree comes
 abbrev pub none : Pair Float
 none = pair (lit 0) (lit 0)
+
+-- the same, as the code holds it
+abbrev pub nothing : PDp
+nothing = record { p = ofBits binary32 0; dp = ofBits binary32 0 }
 
 -- what lane m holds in degree n: nothing below the degree where its four lanes begin, there its start value, and a step for each degree after it
 unfoldable pub lane : Input Float → ℕ → ℕ → Pair Float
@@ -183,6 +187,10 @@ abbrev pub general : Input Float → ℕ → Xyz
 general i N = record { x = x-sum rounded i N; y = y-sum rounded i N; z = z-sum rounded i N }
 
 -- ---- what the loops keep
+-- four lists of the degree top, 12 or 13
+abbrev pub OfDegree : ℕ → List Float → List Float → List Float → List Float → Type 0
+OfDegree top g h g-dot h-dot = (WMM-MAX ≤ top) × (top ≤ N-MAX) × (length g ≡ entries top) × (length h ≡ entries top) × (length g-dot ≡ entries top) × (length h-dot ≡ entries top)
+
 -- three rows of w columns
 pub record Sized (w : ℕ) (t : List (List Float)) : Type 0 where
   pub rows : length t ≡ 3
@@ -203,26 +211,26 @@ pub record Fresh (i : Input Float) (m : ℕ) (p d : List (List Float)) : Type 0 
   pub d-sized : Sized M-LEN d
   pub starts : (k l : ℕ) → k < 3 → l < m → cells p d k l ≡ cond (eqb k 1) (start i l) none
 
--- the terms of the orders from m on are stored
-pub record Above (i : Input Float) (m : ℕ) (t : List (List Float)) : Type 0 where
+-- the terms of the orders from m on are stored, in the degrees up to top
+pub record Above (i : Input Float) (top m : ℕ) (t : List (List Float)) : Type 0 where
   pub sized : Sized N-LEGENDRE t
-  pub terms-are : (d l : ℕ) → d ≤ N-MAX → m ≤ l → l ≤ d → cellXyz t (place d l) ≡ laneTerms i d l
+  pub terms-are : (d l : ℕ) → d ≤ top → m ≤ l → l ≤ d → cellXyz t (place d l) ≡ laneTerms i d l
 
 -- the same, in the degrees above m
-pub record Filled (i : Input Float) (m : ℕ) (t : List (List Float)) : Type 0 where
+pub record Filled (i : Input Float) (top m : ℕ) (t : List (List Float)) : Type 0 where
   pub sized : Sized N-LEGENDRE t
-  pub terms-are : (d l : ℕ) → m < d → d ≤ N-MAX → m ≤ l → l ≤ d → cellXyz t (place d l) ≡ laneTerms i d l
+  pub terms-are : (d l : ℕ) → m < d → d ≤ top → m ≤ l → l ≤ d → cellXyz t (place d l) ≡ laneTerms i d l
 
 -- the sums of degree n over its orders
 abbrev pub rowSums : Input Float → ℕ → Xyz
 rowSums i n = record { x = x-row rounded i n; y = y-row rounded i n; z = z-row rounded i n }
 
 -- what the code reads at each order is what the sums read: the factors K, Schmidt's table, the coefficients at the date, the orders, what K is made of, the angles
-pub record Given (i : Input Float) (ss g h g-dot h-dot : List Float) (t : Float) (os sq ds sin cos : List Float) : Type 0 where
+pub record Given (i : Input Float) (top : ℕ) (ss g h g-dot h-dot : List Float) (t : Float) (os sq ds sin cos : List Float) : Type 0 where
   pub K : i .K ≡ kOf
   pub S : (n m : ℕ) → n < M-LEN → m ≤ n → getD ss (place n m) nan ≡ i .S n m
-  pub g-is : (n m : ℕ) → 0 < n → n < M-LEN → m ≤ n → ghAt g h g-dot h-dot t (place n m - 1) .g ≡ i .g n m
-  pub h-is : (n m : ℕ) → 0 < n → n < M-LEN → m ≤ n → ghAt g h g-dot h-dot t (place n m - 1) .h ≡ i .h n m
+  pub g-is : (n m : ℕ) → 0 < n → n ≤ top → m ≤ n → ghAt g h g-dot h-dot t (place n m - 1) .g ≡ i .g n m
+  pub h-is : (n m : ℕ) → 0 < n → n ≤ top → m ≤ n → ghAt g h g-dot h-dot t (place n m - 1) .h ≡ i .h n m
   pub order : (m : ℕ) → m < M-LEN → getD os m nan ≡ lit m
   pub square : (n : ℕ) → n < M-LEN → getD sq n nan ≡ squareAt n
   pub divisor : (n : ℕ) → n < M-LEN → getD ds n nan ≡ divisorAt n

@@ -2,7 +2,9 @@
 -- Definitions only.
 use mathlib.Core.Bool.{Bool}
 use mathlib.Core.List.{List}
+use Prim.Native.Nat.{ℕ}
 use lib.Dec.{T}
+use lib.ListN.{length}
 use lib.Ieee.{Float, binary32, ofBits}
 use Rattle.exact.specs.Tests.{all-capped, between, circle}
 use Rattle.exact.specs.Within.{Within}
@@ -11,7 +13,7 @@ use Rattle.refusals.specs.declared.Refusal.the-variants.{Longitude, Colatitude,
 use Rattle.refusals.specs.declared.Verdict.{Verdict}
 use Rattle.refusals.specs.declared.Verdict.the-variants as Verdict
 use Rattle.lists.specs.Lists.{lengthsVerdict, listsVerdict, main-cap, rate-cap}
-use Rattle.tables.specs.Degree.{N-MAX}
+use Rattle.tables.specs.Degree.{degreeOf}
 use Rattle.sums.specs.Arithmetic.{Arithmetic, rounded, unrounded, sizes}
 use Rattle.sums.specs.Recurrence.{Input}
 use Rattle.sums.specs.Paths.{dated, path-x, path-y, path-z, placed}
@@ -40,16 +42,20 @@ lent c s sl cl ratio t g h gd hd = record { cos-theta = c; sin-theta = s; sin-la
 unfoldable pub inputs : {A : Type 0} → Arithmetic A → Lent → Input A
 inputs o a = placed (a .cos-theta) (a .sin-theta) (a .sin-lambda) (a .cos-lambda) (a .ratio) (dated o (a .g) (a .g-dot) (a .offset)) (dated o (a .h) (a .h-dot) (a .offset))
 
--- X', Y and Z' over any arithmetic
+-- the degree of what is lent, by its lists
+abbrev pub degree : Lent → ℕ
+degree a = degreeOf (length (a .g))
+
+-- X', Y and Z' over any arithmetic, over the degrees of the lists
 module _ {A : Type 0} (o : Arithmetic A) (a : Lent) where
   abbrev pub sum-x : A
-  sum-x = path-x o (inputs o a) N-MAX
+  sum-x = path-x o (inputs o a) (degree a)
 
   abbrev pub sum-y : A
-  sum-y = path-y o (inputs o a) N-MAX
+  sum-y = path-y o (inputs o a) (degree a)
 
   abbrev pub sum-z : A
-  sum-z = path-z o (inputs o a) N-MAX
+  sum-z = path-z o (inputs o a) (degree a)
 
 -- ---- the checks of the numbers (document 01, "Refusal numbers")
 -- 0.875 to 1.015625
@@ -78,7 +84,7 @@ summedSays lists a =
     told (numbersVerdict (a .cos-theta) (a .sin-theta) (a .sin-lambda) (a .cos-lambda) (a .ratio) (a .offset))
     (told lists (answered (valueOf a)))
 
--- Sum, by document 01's order: 9, 3, 10, 11, 6, 7, then the answer
+-- Sum, by document 01's order: 9, 3, 10, 11, 6, 23, 7, then the answer
 unfoldable pub sumSays : Lent → Paper Xyz
 sumSays a = summedSays (listsVerdict (a .g) (a .h) (a .g-dot) (a .h-dot)) a
 

@@ -80,6 +80,7 @@ const ORDERS: [f32; M_LEN] = [
     10.0,
     11.0,
     12.0,
+    13.0,
 ];
 
 // Their squares, and what K is divided by in the degree after each: K's numbers that all lanes share.
@@ -97,6 +98,7 @@ const SQUARES: [f32; M_LEN] = [
     100.0,
     121.0,
     144.0,
+    169.0,
 ];
 
 const DIVISORS: [f32; M_LEN] = [
@@ -113,6 +115,7 @@ const DIVISORS: [f32; M_LEN] = [
     399.0,
     483.0,
     575.0,
+    675.0,
 ];
 
 pub fn orders() -> [f32; M_LEN]

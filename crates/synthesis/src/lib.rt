@@ -1,6 +1,6 @@
 // The entry Sum: X', Y and Z' of the model at a geocentric place and a date, in the crate's sign.
+use lists::check_lengths;
 use lists::check_lists;
-use lists::lists_long;
 use numbers::check_numbers;
 use paths::synthesize_geocentric_xyz;
 use refusals::Refusal;
@@ -47,17 +47,14 @@ pub enum SumAnswer {
     Refused(Refusal),
 }
 
-// What is refused of the lists: 6, and 7 where it is looked for.
+// What is refused of the lists: 6, 23, and 7 where it is looked for.
 fn lists_by(look: bool, g: &[f32], h: &[f32], g_dot: &[f32], h_dot: &[f32]) -> Verdict
     ensures { λ r. ⌜ r ≡ cond look (listsVerdict (now (g .entry)) (now (h .entry)) (now («g_dot» .entry)) (now («h_dot» .entry))) (lengthsVerdict (now (g .entry)) (now (h .entry)) (now («g_dot» .entry)) (now («h_dot» .entry))) ⌝ }
 {
     if look {
         return check_lists(g, h, g_dot, h_dot);
     }
-    if !lists_long(g, h, g_dot, h_dot) {
-        return Verdict::Refused(Refusal::Length);
-    }
-    Verdict::Accepted
+    check_lengths(g, h, g_dot, h_dot)
 }
 
 // One body for the two calls below, with its only call of the sums: the compiler then makes one piece of
@@ -98,7 +95,7 @@ fn sum_by(
     ))
 }
 
-// Refusals 9, 3, 10, 11, 6, 7, then the answer. `answer` is demands 1 and 2, `distance` demand 3;
+// Refusals 9, 3, 10, 11, 6, 23, 7, then the answer. `answer` is demands 1 and 2, `distance` demand 3;
 // the lent slices keep what they hold.
 pub fn sum(
     colatitude: Colatitude,

@@ -1,6 +1,5 @@
 // The near-pole path: orders 0 and 1 alone, and east Y by the recurrence for P(n, 1) over sin θ,
 // which stays finite at sin θ = 0.
-use crate::M_LEN;
 use crate::Xyz;
 use crate::angles::SinCos;
 use crate::date::Gh;
@@ -14,10 +13,10 @@ ghost use mathlib.Core.Path.{_≡_};
 ghost use Prim.Native.Nat.{_+_, _-_, _<_};
 ghost use lib.ListN.{length, getD};
 ghost use lib.Ieee.{nan};
-ghost use Rattle.tables.specs.Degree.{N-MAX, M-LEN, N-COEFF, N-LEGENDRE};
+ghost use Rattle.tables.specs.Degree.{M-LEN, N-LEGENDRE};
 ghost use Rattle.sums.specs.Arithmetic.{rounded};
 ghost use Rattle.synthesis.specs.Sum.{inputs, lent};
-ghost use Rattle.synthesis.specs.Code.{addPoleDegree, ghAt, nearPole, nextQ, nextRow, poleParts};
+ghost use Rattle.synthesis.specs.Code.{OfDegree, addPoleDegree, ghAt, nearPole, nextQ, nextRow, poleParts};
 
 // What a degree hands on: P of its orders 0 and 1, and Q.
 pub struct PoleRow {
@@ -92,7 +91,7 @@ pub fn pole_degree(
     u: SinCos,
     a_over_r_n2: f32,
 ) -> Xyz
-    requires { ⌜ (length (now g) ≡ N-COEFF) × (length (now h) ≡ N-COEFF) × (length (now «g_dot») ≡ N-COEFF) × (length (now «h_dot») ≡ N-COEFF) ⌝ }
+    requires { ⌜ (i < length (now g)) × (i < length (now h)) × (i < length (now «g_dot»)) × (i < length (now «h_dot»)) ⌝ }
     requires { ⌜ (0 < i) × (i + 1 < N-LEGENDRE) ⌝ }
     ensures { λ r. ⌜ r ≡ poleParts row (ghAt (now (g .entry)) (now (h .entry)) (now («g_dot» .entry)) (now («h_dot» .entry)) «time_delta» (i - 1))
         (ghAt (now (g .entry)) (now (h .entry)) (now («g_dot» .entry)) (now («h_dot» .entry)) «time_delta» i)
@@ -116,6 +115,7 @@ pub fn add_pole_degree(t: Xyz, n: usize, a_over_r_n2: f32, a: Xyz) -> Xyz
 }
 
 pub fn synthesize_near_pole(
+    top: usize,
     cos_theta: f32,
     sin_theta: f32,
     sin_lambda: f32,
@@ -127,8 +127,8 @@ pub fn synthesize_near_pole(
     h_dot: &[f32],
     time_delta: f32,
 ) -> Xyz
-    requires { ⌜ (length (now g) ≡ N-COEFF) × (length (now h) ≡ N-COEFF) × (length (now «g_dot») ≡ N-COEFF) × (length (now «h_dot») ≡ N-COEFF) ⌝ }
-    ensures { λ r. ⌜ r ≡ nearPole (inputs rounded (lent «cos_theta» «sin_theta» «sin_lambda» «cos_lambda» ratio «time_delta» (now (g .entry)) (now (h .entry)) (now («g_dot» .entry)) (now («h_dot» .entry)))) N-MAX ⌝ }
+    requires { ⌜ OfDegree top (now g) (now h) (now «g_dot») (now «h_dot») ⌝ }
+    ensures { λ r. ⌜ r ≡ nearPole (inputs rounded (lent «cos_theta» «sin_theta» «sin_lambda» «cos_lambda» ratio «time_delta» (now (g .entry)) (now (h .entry)) (now («g_dot» .entry)) (now («h_dot» .entry)))) top ⌝ }
 {
     let ss = tables::schmidt_table();
     let none = PDp { p: 0.0, dp: 0.0 };
@@ -150,7 +150,7 @@ pub fn synthesize_near_pole(
         y: 0.0,
         z: 0.0,
     };
-    for n in 1..M_LEN {
+    for n in 1..top + 1 {
         let i = legendre_index(n, 0);
         let row = pole_row(n, k0, k1, cos_theta, sin_theta, prev1, prev2);
         let u = SinCos {

@@ -3,8 +3,7 @@ use crate::Xyz;
 use crate::general::synthesize_xyz_prime;
 use crate::near_pole::synthesize_near_pole;
 ghost use mathlib.Core.Path.{_≡_};
-ghost use lib.ListN.{length};
-ghost use Rattle.tables.specs.Degree.{N-COEFF};
+ghost use Rattle.lists.specs.Lists.{Long};
 ghost use lib.Dec.{T};
 ghost use Rattle.exact.specs.Tests.{circle};
 ghost use Rattle.synthesis.specs.Sum.{lent, valueOf};
@@ -24,12 +23,14 @@ pub fn synthesize_geocentric_xyz(
     h_dot: &[f32],
     time_delta: f32,
 ) -> Xyz
-    requires { ⌜ (length (now g) ≡ N-COEFF) × (length (now h) ≡ N-COEFF) × (length (now «g_dot») ≡ N-COEFF) × (length (now «h_dot») ≡ N-COEFF) ⌝ }
+    requires { ⌜ Long (now g) (now h) (now «g_dot») (now «h_dot») ⌝ }
     requires { ⌜ T (circle «sin_theta» «cos_theta») ⌝ }
     ensures { λ r. ⌜ r ≡ valueOf (lent «cos_theta» «sin_theta» «sin_lambda» «cos_lambda» ratio «time_delta» (now (g .entry)) (now (h .entry)) (now («g_dot» .entry)) (now («h_dot» .entry))) ⌝ }
 {
+    let top = tables::degree_of(g.len());
     if float32::abs(sin_theta) < NEAR_POLE_SIN_THETA_MIN {
         return synthesize_near_pole(
+            top,
             cos_theta,
             sin_theta,
             sin_lambda,
@@ -43,6 +44,7 @@ pub fn synthesize_geocentric_xyz(
         );
     }
     let r = synthesize_xyz_prime(
+        top,
         cos_theta,
         sin_theta,
         sin_lambda,

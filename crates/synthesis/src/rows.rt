@@ -1,4 +1,4 @@
-// P and its derivative: three rows of thirteen of each, whose roles rotate after each degree.
+// P and its derivative: three rows of fourteen of each, whose roles rotate after each degree.
 use crate::M_LEN;
 use crate::lanes::Four;
 ghost use mathlib.Core.Path.{_≡_};

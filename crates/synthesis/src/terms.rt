@@ -9,9 +9,9 @@ use crate::lanes::Four;
 use crate::rows::PDp;
 use tables::N_LEGENDRE;
 ghost use mathlib.Core.Path.{_≡_};
-ghost use Prim.Native.Nat.{_+_, _<_};
+ghost use Prim.Native.Nat.{_+_, _<_, _≤_};
 ghost use lib.ListN.{length};
-ghost use Rattle.tables.specs.Degree.{M-LEN, N-COEFF, N-LEGENDRE};
+ghost use Rattle.tables.specs.Degree.{M-LEN, N-LEGENDRE};
 ghost use Rattle.synthesis.specs.Code.{put4Terms, putTerm, termAt, termOf};
 
 // An order's terms of the three sums of its degree, s its Schmidt factor and r its P. That of X has its
@@ -46,7 +46,7 @@ pub fn term(
     sin: &[f32; M_LEN],
     cos: &[f32; M_LEN],
 ) -> Xyz
-    requires { ⌜ (length (now g) ≡ N-COEFF) × (length (now h) ≡ N-COEFF) × (length (now «g_dot») ≡ N-COEFF) × (length (now «h_dot») ≡ N-COEFF) ⌝ }
+    requires { ⌜ (i ≤ length (now g)) × (i ≤ length (now h)) × (i ≤ length (now «g_dot»)) × (i ≤ length (now «h_dot»)) ⌝ }
     requires { ⌜ (m < M-LEN) × (0 < i) × (i < N-LEGENDRE) ⌝ }
     ensures { λ v. ⌜ v ≡ termAt m i r (now (ss .entry)) (now (g .entry)) (now (h .entry)) (now («g_dot» .entry)) (now («h_dot» .entry)) «time_delta» (now (os .entry)) (now (sin .entry)) (now (cos .entry)) ⌝ }
 {
@@ -81,7 +81,7 @@ pub fn four_terms(
     sin: &[f32; M_LEN],
     cos: &[f32; M_LEN],
 ) -> FourXyz
-    requires { ⌜ (length (now g) ≡ N-COEFF) × (length (now h) ≡ N-COEFF) × (length (now «g_dot») ≡ N-COEFF) × (length (now «h_dot») ≡ N-COEFF) ⌝ }
+    requires { ⌜ (i + 3 ≤ length (now g)) × (i + 3 ≤ length (now h)) × (i + 3 ≤ length (now «g_dot»)) × (i + 3 ≤ length (now «h_dot»)) ⌝ }
     requires { ⌜ (m + 3 < M-LEN) × (0 < i) × (i + 3 < N-LEGENDRE) ⌝ }
     ensures { λ v. ⌜ (v .v0 ≡ termAt m i (r .r0) (now (ss .entry)) (now (g .entry)) (now (h .entry)) (now («g_dot» .entry)) (now («h_dot» .entry)) «time_delta» (now (os .entry)) (now (sin .entry)) (now (cos .entry)))
         × (v .v1 ≡ termAt (m + 1) (i + 1) (r .r1) (now (ss .entry)) (now (g .entry)) (now (h .entry)) (now («g_dot» .entry)) (now («h_dot» .entry)) «time_delta» (now (os .entry)) (now (sin .entry)) (now (cos .entry)))

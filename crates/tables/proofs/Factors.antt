@@ -15,8 +15,8 @@ use Rattle.exact.specs.Exact.{lit, own}
 use Rattle.exact.proofs.Range.{holds-one, round-fit, round-null}
 use Rattle.exact.proofs.Sizes.{AtMost}
 use Rattle.exact.proofs.Wholes.{lit-one, lit-zero, short-not-above, whole-above, whole-difference, whole-product, whole-quotient, whole-short}
-use Rattle.tables.specs.Degree.{place}
-use Rattle.tables.specs.Tables.{SOURCE-MAX, kBits}
+use Rattle.tables.specs.Degree.{WMM-MAX, place}
+use Rattle.tables.specs.Tables.{kBits}
 use Rattle.tables.specs.Rule.{kOf}
 use Rattle.tables.specs.Division.{atLeastZero, kDivided, kDivisor, kOver}
 use Rattle.tables.proofs.TableStatement.{k-stored}
@@ -109,7 +109,7 @@ k-whole n m N M = divided n m N M ∙ go (leb (m + 2) (n + 1)) refl
         round-null false _ _ (omega arith) (divisor-fine (n * n) (le-trans (mul-le-mul N N) (lit≤ tt)) .0)
 
 -- its bits are those that the source stores
-pub division-stored : (n m : ℕ) → n < SOURCE-MAX → m < n + 2 → toBits binary32 (kDivided (lit n) (lit m)) ≡ getD kBits (place (n + 1) m) 0
+pub division-stored : (n m : ℕ) → n < WMM-MAX → m < n + 2 → toBits binary32 (kDivided (lit n) (lit m)) ≡ getD kBits (place (n + 1) m) 0
 division-stored n m hn hm = ap (toBits binary32) (k-whole n m (omega arith) (omega arith)) ∙ k-stored (n + 1) m (omega arith) (omega arith)
 
 -- ---- outside n ≥ 2 and m ≤ n - 2 it is +0

@@ -1,5 +1,5 @@
 -- The table statement: one computed test a table, and one law that turns it into the rule at each entry, over the degree limit; an entry by its place. Assumes nothing.
-use mathlib.Core.Path.{_≡_, refl, subst, _∙_}
+use mathlib.Core.Path.{_≡_, refl, sym, subst, _∙_}
 use mathlib.Core.Bool.{Bool, true, _&&_}
 use mathlib.Core.List.{List, [], _∷_, map}
 use Prim.Native.Nat.{ℕ, zero, suc, _+_, _-_, _*_, _^_, _<_}
@@ -9,8 +9,8 @@ use lib.IntN.{ℤ}
 use lib.ListN.{length, getD, List·getD-map}
 use lib.Ieee.{nan, binary32, ofBits, toBits, round}
 use lib.Ieee.Fits.{and-l, and-r}
-use Rattle.tables.specs.Degree.{N-MAX, N-LEGENDRE, place}
-use Rattle.tables.specs.Tables.{SOURCE-MAX, schmidtBits, kBits, schmidtTable, schmidtAt}
+use Rattle.tables.specs.Degree.{N-MAX, N-LEGENDRE, WMM-MAX, place}
+use Rattle.tables.specs.Tables.{schmidtBits, kBits, schmidtTable, schmidtAt}
 use Rattle.tables.specs.Rule.{kOf, factorial, central, squareNum, squareDen, units, NearestRoot, mended, misses}
 
 -- ---- a test of every number below a limit
@@ -46,12 +46,12 @@ k-law : (N : ℕ) (bits : List ℕ) → T (triangle (k-right bits) N) → (n m :
 unfolding k-right
 k-law N bits t n m hn hm = eqb→eq _ _ (at-place (k-right bits) N t n m hn hm)
 
-pub k-stored : (n m : ℕ) → n < suc SOURCE-MAX → m < suc n → toBits binary32 (kOf n m) ≡ getD kBits (place n m) 0
+pub k-stored : (n m : ℕ) → n < suc WMM-MAX → m < suc n → toBits binary32 (kOf n m) ≡ getD kBits (place n m) 0
 unfolding triangle k-right kBits toBits round
-k-stored n m hn hm = k-law SOURCE-MAX kBits tt n m hn hm
+k-stored n m hn hm = k-law WMM-MAX kBits tt n m hn hm
 
 -- and it has no other entry, nor one too few: beyond its end `k-stored` would read 0, which is a factor too
-pub k-entries : length kBits ≡ place (SOURCE-MAX + 1) 0
+pub k-entries : length kBits ≡ place (WMM-MAX + 1) 0
 unfolding kBits
 k-entries = refl
 
@@ -82,9 +82,12 @@ schmidt-law : (N : ℕ) (bits : List ℕ) (steps : List ℤ) → T (triangle (sc
 unfolding schmidt-right
 schmidt-law N bits steps t n m hn hm = rooted-is _ _ _ (at-place (schmidt-right bits steps) N t n m hn hm)
 
-pub schmidt-rule : (n m : ℕ) → n < suc N-MAX → m < suc n → NearestRoot (squareNum n m) (squareDen n m) (mended schmidtBits misses n m)
+schmidt-tested : triangle (schmidt-right schmidtBits misses) N-MAX ≡ true
 unfolding triangle schmidt-right schmidtBits misses squareNum squareDen central factorial units ofBits
-schmidt-rule n m hn hm = schmidt-law N-MAX schmidtBits misses tt n m hn hm
+schmidt-tested = refl
+
+pub schmidt-rule : (n m : ℕ) → n < suc N-MAX → m < suc n → NearestRoot (squareNum n m) (squareDen n m) (mended schmidtBits misses n m)
+schmidt-rule n m hn hm = schmidt-law N-MAX schmidtBits misses (subst T (sym schmidt-tested) tt) n m hn hm
 
 -- ---- the entry at a place
 -- within a list the default does not count

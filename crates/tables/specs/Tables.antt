@@ -4,7 +4,7 @@ use mathlib.Core.List.{List, [], _∷_, map}
 use lib.ListN.{getD}
 use lib.Ieee.{Float, binary32, ofBits}
 
--- SCHMIDT_SEMI_NORM
+-- SCHMIDT_SEMI_NORM, and the nearest f32 in degree 13
 unfoldable pub schmidtBits : List ℕ
 schmidtBits = 0x3f800000 ∷ 0x3f800000 ∷ 0x3f800000 ∷ 0x3fc00000 ∷ 0x3fddb3d7 ∷ 0x3f5db3d7 ∷ 0x40200000 ∷ 0x4043f58d
     ∷ 0x3ff7def6 ∷ 0x3f4a62c3 ∷ 0x408c0000 ∷ 0x40b1166a ∷ 0x407a708b ∷ 0x4005dd98 ∷ 0x3f3d5086 ∷ 0x40fc0000
@@ -17,7 +17,9 @@ schmidtBits = 0x3f800000 ∷ 0x3f800000 ∷ 0x3f800000 ∷ 0x3fc00000 ∷ 0x3fdd
     ∷ 0x4029e7ff ∷ 0x3f17f800 ∷ 0x43ac3980 ∷ 0x43e93177 ∷ 0x43cc8624 ∷ 0x43a3fbe8 ∷ 0x436f8395 ∷ 0x431e6c72
     ∷ 0x42bc3c3d ∷ 0x42466add ∷ 0x41b61490 ∷ 0x410d09f0 ∷ 0x402e1a24 ∷ 0x3f14798b ∷ 0x44250c70 ∷ 0x446041c2
     ∷ 0x4446c84f ∷ 0x44224e22 ∷ 0x43f37533 ∷ 0x43a702bc ∷ 0x43504c85 ∷ 0x42ea1b95 ∷ 0x426a1b95 ∷ 0x41cc5893
-    ∷ 0x4116eb65 ∷ 0x403203d3 ∷ 0x3f11593d ∷ []
+    ∷ 0x4116eb65 ∷ 0x403203d3 ∷ 0x3f11593d
+    ∷ 0x449eb358 ∷ 0x44d845bd ∷ 0x44c1709f ∷ 0x44a06454 ∷ 0x447607ac ∷ 0x442df82e ∷ 0x43e1c5c8 ∷ 0x438591a1
+    ∷ 0x430eca87 ∷ 0x4288255f ∷ 0x41e31b72 ∷ 0x412096cc ∷ 0x4035af8e ∷ 0x3f0e86ab ∷ []
 
 -- LEGENDRE_K: the laws k-stored and division-stored compare the factors with it, k-entries counts it; no code and no contract reads it
 unfoldable pub kBits : List ℕ
@@ -33,10 +35,6 @@ kBits = 0x00000000 ∷ 0x00000000 ∷ 0x00000000 ∷ 0x3eaaaaab ∷ 0x00000000 �
     ∷ 0x3e244029 ∷ 0x3e02e321 ∷ 0x3db8c82e ∷ 0x3d430c31 ∷ 0x00000000 ∷ 0x00000000 ∷ 0x3e8043d8 ∷ 0x3e7e68f2
     ∷ 0x3e780cb8 ∷ 0x3e6d7304 ∷ 0x3e5e9bd3 ∷ 0x3e4b8728 ∷ 0x3e343501 ∷ 0x3e18a55e ∷ 0x3df1b07f ∷ 0x3da99b4c
     ∷ 0x3d321643 ∷ 0x00000000 ∷ 0x00000000 ∷ []
-
--- the highest degree of the source's tables
-abbrev pub SOURCE-MAX : ℕ
-SOURCE-MAX = 12
 
 -- Schmidt's table as a list of floats
 unfoldable pub schmidtTable : List Float

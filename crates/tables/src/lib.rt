@@ -2,17 +2,25 @@
 // A caller takes the table once and reads it in its loop: each use of a `const` array writes all its
 // elements anew.
 ghost use mathlib.Core.Path.{_≡_};
+ghost use Rattle.tables.specs.Degree.{degreeOf};
 ghost use Rattle.tables.specs.Tables.{schmidtTable};
 ghost use Rattle.tables.specs.Division.{atLeastZero, kDivided, kDivisor, kOver};
 
-pub const N_MAX: usize = 12;
+// The highest degree, that of IGRF; and the degree of the WMM.
+pub const N_MAX: usize = 13;
+
+pub const WMM_MAX: usize = 12;
 
 pub const N_LEGENDRE: usize = (N_MAX + 1) * (N_MAX + 2) / 2;
 
-// The entries of a list of coefficients: the places of degree 1 and up.
-pub const N_COEFF: usize = N_MAX * (N_MAX + 3) / 2;
+// The entries of a list of coefficients, the places of degree 1 and up: of the longer list, and of the
+// WMM's.
+pub const N_COEFF_MAX: usize = N_MAX * (N_MAX + 3) / 2;
 
-// Schmidt semi-normalization factors, by their bits as in the source.
+pub const N_COEFF: usize = WMM_MAX * (WMM_MAX + 3) / 2;
+
+// Schmidt semi-normalization factors, by their bits: as in the source up to degree 12, the nearest in
+// degree 13.
 const SCHMIDT_SEMI_NORM: [f32; N_LEGENDRE] = [
     f32::from_bits(0x3f800000),
     f32::from_bits(0x3f800000),
@@ -105,7 +113,32 @@ const SCHMIDT_SEMI_NORM: [f32; N_LEGENDRE] = [
     f32::from_bits(0x4116eb65),
     f32::from_bits(0x403203d3),
     f32::from_bits(0x3f11593d),
+    f32::from_bits(0x449eb358),
+    f32::from_bits(0x44d845bd),
+    f32::from_bits(0x44c1709f),
+    f32::from_bits(0x44a06454),
+    f32::from_bits(0x447607ac),
+    f32::from_bits(0x442df82e),
+    f32::from_bits(0x43e1c5c8),
+    f32::from_bits(0x438591a1),
+    f32::from_bits(0x430eca87),
+    f32::from_bits(0x4288255f),
+    f32::from_bits(0x41e31b72),
+    f32::from_bits(0x412096cc),
+    f32::from_bits(0x4035af8e),
+    f32::from_bits(0x3f0e86ab),
 ];
+
+// The degree of a list, by its entries.
+pub fn degree_of(entries: usize) -> usize
+    ensures { λ r. ⌜ r ≡ degreeOf entries ⌝ }
+{
+    if entries == N_COEFF_MAX {
+        N_MAX
+    } else {
+        WMM_MAX
+    }
+}
 
 pub fn schmidt_table() -> [f32; N_LEGENDRE]
     ensures { λ r. ⌜ r ≡ schmidtTable ⌝ }

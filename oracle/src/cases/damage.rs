@@ -1,9 +1,10 @@
 //! Damaged lines: a good line with its text spoilt. Most cannot be read. Some still can, and then
 //! have their answer.
+use super::lists::DEGREE_12;
 use super::rng::Rng;
-use super::{lists, text_case, Generator, Kind};
+use super::{text_case, Generator, Kind};
 use crate::entries::Set;
-use crate::format::{parse_set, put_case, put_set};
+use crate::format::{parse_second_set, parse_set, put_case, put_second_set, put_set};
 use crate::replay::Replay;
 
 /// Bytes that a line can meet. No newline, which would end the line.
@@ -72,14 +73,21 @@ fn spoil(rng: &mut Rng, text: &mut Vec<u8>) {
 
 /// A SET line with short lists, so that the numbers of entries are met often.
 fn short_set(rng: &mut Rng) -> Set {
-    let way = rng.below(lists::SETS);
+    let way = rng.below(DEGREE_12.sets());
     let epoch_year = rng.pick(&[2020, 2025]);
-    let mut lists = lists::lists(rng, way);
+    let mut lists = DEGREE_12.lists(rng, way);
     let shortest = rng.below(3);
     for list in &mut lists {
         list.truncate(shortest);
     }
     Set { epoch_year, lists }
+}
+
+/// A SET2 line of that kind.
+pub fn short_second_set(rng: &mut Rng) -> Vec<u8> {
+    let mut line = Vec::new();
+    put_second_set(&mut line, &short_set(rng));
+    line
 }
 
 /// A good line without its answer. Before it stands a SET line where it needs one.
@@ -114,8 +122,8 @@ pub fn bad_line(generator: &mut Generator, out: &mut Vec<u8>) {
     damaged_line(generator, out, good_line);
 }
 
-/// Damages a good line and writes it with its answer. It is no SET line that can be read, and a right
-/// run writes it back as it is.
+/// Damages a good line and writes it with its answer. It is no SET or SET2 line that can be read, and a
+/// right run writes it back as it is.
 pub fn damaged_line(
     generator: &mut Generator,
     out: &mut Vec<u8>,
@@ -126,7 +134,7 @@ pub fn damaged_line(
         for _ in 0..generator.rng.below(3) + 1 {
             spoil(&mut generator.rng, &mut text);
         }
-        if parse_set(&text).is_some() {
+        if parse_set(&text).is_some() || parse_second_set(&text).is_some() {
             continue;
         }
         let mut line = Vec::new();

@@ -5,7 +5,7 @@ use crate::entries::CAPS;
 use crate::format::NEWLINE;
 use crate::layout::{published_file, SPOILING};
 use crate::replay::LONGEST;
-use crate::synthesis::{N_COEFF, N_MAX};
+use crate::tables::{N_COEFF, WMM_MAX};
 
 /// The longest text: a line has its name, its mark and its answer beside it.
 const LONGEST_TEXT: usize = LONGEST - 64;
@@ -127,7 +127,7 @@ fn any_entry(rng: &mut Rng, list: usize) -> String {
 /// A good file of random numbers.
 fn any_lines(rng: &mut Rng) -> Lines {
     let mut lines = vec![rng.pick(&HEADERS[..14]).to_vec()];
-    for degree in 1..=N_MAX {
+    for degree in 1..=WMM_MAX {
         for order in 0..=degree {
             let mut line = format!("{degree} {order}");
             for list in 0..4 {

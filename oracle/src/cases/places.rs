@@ -1,6 +1,7 @@
 //! Cases of places and days: SUM, FIELD and EPOCH, and the sets that they use.
+use super::lists::{Degree, DEGREE_12, DEGREE_13};
 use super::rng::{plan, plans, random_plan};
-use super::{lists, pairs, Generator};
+use super::{lists, longer, pairs, Generator};
 use crate::entries::{Place, Set};
 use crate::format::Case;
 use crate::models::{date_to_epoch_year, days_in_year};
@@ -28,11 +29,10 @@ impl Generator {
             self.special = self.rng.once_in(3);
             let set = if self.special {
                 self.serves = 24;
-                let place = self.set_walk.next();
-                self.special_set(place)
+                self.special_set()
             } else {
                 self.serves = 24 + self.rng.below(64);
-                lists::good_set(&mut self.rng)
+                self.good_set()
             };
             self.published = WMM_MODELS.iter().position(|model| Set::of(model) == set);
             self.weak_day = None;
@@ -41,23 +41,49 @@ impl Generator {
         self.serves -= 1;
     }
 
+    /// The degree that is asked for.
+    pub fn degree(&self) -> &'static Degree {
+        if self.longer {
+            &DEGREE_13
+        } else {
+            &DEGREE_12
+        }
+    }
+
+    /// A good set. Where degree 13 is asked for, one in four is of degree 12.
+    fn good_set(&mut self) -> Set {
+        let shorter = self.longer && self.rng.once_in(4);
+        let degree = if shorter { &DEGREE_12 } else { self.degree() };
+        lists::good_set(&mut self.rng, degree.length)
+    }
+
     /// Special lists, as a rule with a good epoch, or a special epoch with published lists.
-    fn special_set(&mut self, place: usize) -> Set {
+    fn special_set(&mut self) -> Set {
+        let degree = self.degree();
+        let (place, sets) = if self.longer {
+            (self.longer_walk.next(), longer::SETS)
+        } else {
+            (self.set_walk.next(), degree.sets())
+        };
         let rng = &mut self.rng;
-        if place < lists::SETS {
-            let epoch_year = if rng.once_in(6) {
-                rng.pick(&self.pools.epoch_year)
-            } else {
-                rng.pick(&[2020, 2025])
+        if place >= sets {
+            let model = rng.below(2);
+            return Set {
+                epoch_year: self.pools.epoch_year[place - sets],
+                lists: lists::good_lists(rng, degree.length, model),
             };
-            let lists = lists::lists(rng, place);
-            return Set { epoch_year, lists };
         }
-        let model = &WMM_MODELS[rng.below(2)];
-        Set {
-            epoch_year: self.pools.epoch_year[place - lists::SETS],
-            ..Set::of(model)
-        }
+        let epoch_year = if rng.once_in(6) {
+            rng.pick(&self.pools.epoch_year)
+        } else {
+            rng.pick(&[2020, 2025])
+        };
+        let lists = if self.longer {
+            longer::lists(rng, place)
+        } else {
+            degree.lists(rng, place)
+        };
+        Set { epoch_year, lists }
     }
 
     pub fn sum_case(&mut self, place: Option<usize>, out: &mut Vec<u8>) -> Case<'static> {

@@ -1,13 +1,13 @@
 //! Cases of RATES: those of FIELD, and others with weak sets, whose field is zero or next to it on one
 //! day, everywhere or in some places. As for lists of error records, their walks are apart from those of
 //! the other kinds.
-use super::lists::{self, alone, good_lists, made};
+use super::lists::{self, alone, good_lists, made, Degree};
 use super::rng::{plan, plans, singles, Rng, Walk};
 use super::values::{any_scale, step, SMALL};
 use super::{pairs, Generator};
 use crate::entries::{Place, Set, CAPS};
 use crate::models::{days_in_year, years_since_epoch};
-use crate::synthesis::{coeff_index, N_COEFF, N_MAX};
+use crate::tables::{coeff_index, N_MAX};
 
 /// The order of the coefficient at an index.
 fn order(index: usize) -> usize {
@@ -27,39 +27,56 @@ fn large(rng: &mut Rng) -> f32 {
 }
 
 /// Ways to make the coefficients of the day, g and h.
-const FIELDS: usize = 14;
+pub const FIELDS: usize = 14;
 
-fn fields(rng: &mut Rng, way: usize) -> [Vec<f32>; 4] {
+pub fn fields(rng: &mut Rng, length: usize, way: usize) -> [Vec<f32>; 4] {
     let [axis, east] = [coeff_index(1, 0), coeff_index(1, 1)];
     let some_list = rng.below(2);
     match way {
-        0 => made(|_, _| 0.0),
-        1 => made(|_, _| -0.0),
-        2 => made(|_, _| rng.sign() * 0.0),
+        0 => made(length, |_, _| 0.0),
+        1 => made(length, |_, _| -0.0),
+        2 => made(length, |_, _| rng.sign() * 0.0),
         // no H at the poles, or on the equator where the sine or the cosine of the longitude is zero
-        3 => alone(0, axis, large(rng)),
-        4 => alone(0, east, large(rng)),
-        5 => alone(1, east, large(rng)),
-        6 => made(|_, index| if order(index) == 0 { large(rng) } else { 0.0 }),
-        7 => made(|_, index| if order(index) == 1 { 0.0 } else { large(rng) }),
+        3 => alone(length, 0, axis, large(rng)),
+        4 => alone(length, 0, east, large(rng)),
+        5 => alone(length, 1, east, large(rng)),
+        6 => made(
+            length,
+            |_, index| if order(index) == 0 { large(rng) } else { 0.0 },
+        ),
+        7 => made(
+            length,
+            |_, index| if order(index) == 1 { 0.0 } else { large(rng) },
+        ),
         // at the poles an H next to zero, and a Z that is not
-        8 => made(|_, index| match order(index) {
+        8 => made(length, |_, index| match order(index) {
             1 => next_to_zero(rng),
             _ => large(rng),
         }),
-        9 => alone(some_list, rng.pick(&[axis, east]), next_to_zero(rng)),
-        10 => made(|_, _| any_scale(rng, -80.0, -70.0)),
-        11 => made(|_, _| any_scale(rng, -149.0, -76.0)),
-        12 => made(|_, _| rng.sign() * f32::from_bits(rng.pick(&SMALL))),
-        _ => alone(some_list, rng.below(N_COEFF), any_scale(rng, -149.0, -60.0)),
+        9 => alone(
+            length,
+            some_list,
+            rng.pick(&[axis, east]),
+            next_to_zero(rng),
+        ),
+        10 => made(length, |_, _| any_scale(rng, -80.0, -70.0)),
+        11 => made(length, |_, _| any_scale(rng, -149.0, -76.0)),
+        12 => made(length, |_, _| rng.sign() * f32::from_bits(rng.pick(&SMALL))),
+        _ => alone(
+            length,
+            some_list,
+            rng.below(length),
+            any_scale(rng, -149.0, -60.0),
+        ),
     }
 }
 
 /// Ways to make a weak set: coefficients of the day, with rates of every kind.
 pub const WEAK_SETS: usize = FIELDS * lists::GOOD;
 
-/// A weak set, and the day on which it is weak: half of the time the first of its epoch.
-pub fn weak_set(rng: &mut Rng, way: usize) -> (Set, (i32, i32)) {
+/// A weak set with lists of this length, and the day on which it is weak: half of the time the first of
+/// its epoch.
+pub fn weak_set(rng: &mut Rng, length: usize, way: usize) -> (Set, (i32, i32)) {
     let epoch_year = rng.pick(&[2020, 2025]);
     let (year, day) = if rng.once_in(2) {
         (epoch_year, 1)
@@ -68,11 +85,11 @@ pub fn weak_set(rng: &mut Rng, way: usize) -> (Set, (i32, i32)) {
         (year, rng.whole(1, days_in_year(year)))
     };
     let offset = years_since_epoch(year, day, epoch_year);
-    let of_day = fields(rng, way / lists::GOOD);
-    let mut lists = good_lists(rng, way % lists::GOOD);
+    let of_day = fields(rng, length, way / lists::GOOD);
+    let mut lists = good_lists(rng, length, way % lists::GOOD);
     let moved = i32::from(rng.once_in(4));
     for list in 0..2 {
-        for index in 0..N_COEFF {
+        for index in 0..length {
             // with the rate of so many years it is the coefficient of the day, where f32 can be
             let main = of_day[list][index] - offset * lists[2 + list][index];
             lists[list][index] = match moved * rng.whole(-1, 1) {
@@ -84,16 +101,16 @@ pub fn weak_set(rng: &mut Rng, way: usize) -> (Set, (i32, i32)) {
     (Set { epoch_year, lists }, (year, day))
 }
 
-/// Spoils a set: by its year, by the length of a list, or by an entry.
-fn spoil(rng: &mut Rng, set: &mut Set) {
+/// Spoils a set of a degree: by its year, by the length of a list, or by an entry.
+fn spoil(rng: &mut Rng, degree: &Degree, set: &mut Set) {
     let list = rng.below(4);
     match rng.below(4) {
         0 => set.epoch_year = if set.epoch_year == 2020 { 2025 } else { 2020 },
         1 => set.epoch_year = rng.pick(&[2015, 2030, 0, -2025, i32::MAX]),
-        2 => lists::resize(&mut set.lists[list], rng.pick(&lists::LENGTHS)),
+        2 => lists::resize(&mut set.lists[list], rng.pick(degree.others)),
         _ => {
             let way = rng.below(lists::SPOILT);
-            set.lists[list][lists::place(rng)] = lists::entry(rng, list, way);
+            set.lists[list][degree.place(rng)] = lists::entry(rng, list, way);
         }
     }
 }
@@ -139,9 +156,10 @@ impl Generator {
 
     fn take_weak_set(&mut self, out: &mut Vec<u8>) {
         let way = self.rates_walks.sets.next();
-        let (mut set, day) = weak_set(&mut self.rng, way);
+        let degree = self.degree();
+        let (mut set, day) = weak_set(&mut self.rng, degree.length, way);
         if self.rng.once_in(4) {
-            spoil(&mut self.rng, &mut set);
+            spoil(&mut self.rng, degree, &mut set);
         }
         self.replay.take(set, out);
         self.serves = 24;
@@ -151,7 +169,7 @@ impl Generator {
     }
 
     /// A place, as a rule on the day: with one special part, or often where a weak field is zero.
-    fn weak_place(&mut self, day: (i32, i32)) -> Place {
+    pub fn weak_place(&mut self, day: (i32, i32)) -> Place {
         let rng = &mut self.rng;
         let ways = if rng.once_in(3) {
             plan(&self.field_ways, self.rates_walks.singles.next())

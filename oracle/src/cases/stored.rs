@@ -1,12 +1,12 @@
 //! Stored sets, for SREAD: planned ones, in groups, and random ones. And sets and rooms, for SWRITE.
 //! As for lists of error records, their walks are apart from those of the other kinds.
-use super::lists;
+use super::lists::{self, DEGREE_12};
 use super::rng::{plan, plans, random_plan, Rng, Walk};
 use super::{Generator, Kind};
 use crate::entries::{Set, CAPS};
 use crate::format::{Case, MAX_STORED};
 use crate::stored::STORED_LENGTH;
-use crate::synthesis::N_COEFF;
+use crate::tables::{N_COEFF, N_COEFF_MAX};
 use std::collections::BTreeSet;
 
 const FIELDS: usize = 5;
@@ -17,9 +17,8 @@ const HEAD: usize = 3;
 const HEADS: usize = FIELDS * HEAD;
 /// How many bytes more than a set has are planned.
 const MORE: usize = 8;
-/// The entries of a list with one degree more, and how many bytes that are more.
-const LONGER: usize = N_COEFF + 14;
-const LONGER_BY: usize = 4 * (LONGER - N_COEFF);
+/// How many bytes more a list with one degree more has.
+const LONGER_BY: usize = 4 * (N_COEFF_MAX - N_COEFF);
 /// Kinds of faults: a tag or a length of each field, a byte left over, an entry of each list, and the
 /// end within each field.
 const FAULTS: usize = 4 * FIELDS;
@@ -57,7 +56,7 @@ pub const GROUPS: [(Group, &str, usize); 8] = [
         4 * N_COEFF * lists::ENTRIES,
     ),
     (Group::Longer, "lists with a degree more", 2 * FIELDS),
-    (Group::Set, "special sets", lists::SETS),
+    (Group::Set, "special sets", DEGREE_12.sets()),
     (Group::Faults, "every two faults", FAULTS * FAULTS),
 ];
 
@@ -104,7 +103,7 @@ pub fn odd_set(epoch_year: i32) -> Set {
     };
     Set {
         epoch_year,
-        lists: lists::made(entry),
+        lists: lists::made(N_COEFF, entry),
     }
 }
 
@@ -152,7 +151,7 @@ pub fn planned(rng: &mut Rng, good: &[u8], group: Group, way: usize) -> Vec<u8> 
         Group::Longer => return longer(rng, good, way % FIELDS, way < FIELDS),
         Group::Set => {
             bytes.truncate(STARTS[1]);
-            bytes.extend(list_fields(&lists::lists(rng, way)));
+            bytes.extend(list_fields(&DEGREE_12.lists(rng, way)));
         }
         Group::Faults => {
             // one, or two in order: the end comes last
@@ -186,7 +185,7 @@ fn longer(rng: &mut Rng, good: &[u8], which: usize, told: bool) -> Vec<u8> {
         if at > 0 && (which == 0 || which == at) {
             bytes.extend(any_bytes(rng, LONGER_BY));
             if told {
-                let length = (4 * LONGER as u16).to_le_bytes();
+                let length = (4 * N_COEFF_MAX as u16).to_le_bytes();
                 bytes[start + 1..start + HEAD].copy_from_slice(&length);
             }
         }
@@ -277,13 +276,13 @@ const YEARS: [i32; 14] = [
     i32::MAX,
 ];
 /// The number of special values: of rooms, years and lists.
-pub const WRITE_WAYS: [usize; 3] = [ROOMS.len(), YEARS.len(), lists::SETS];
+pub const WRITE_WAYS: [usize; 3] = [ROOMS.len(), YEARS.len(), DEGREE_12.sets()];
 
 /// A set with a special year and special lists, or with random good ones.
 pub fn set(rng: &mut Rng, year: Option<usize>, lists: Option<usize>) -> Set {
     let lists = match lists {
-        Some(way) => lists::lists(rng, way),
-        None => lists::good_set(rng).lists,
+        Some(way) => DEGREE_12.lists(rng, way),
+        None => lists::good_set(rng, N_COEFF).lists,
     };
     let epoch_year = match year {
         Some(way) => YEARS[way],

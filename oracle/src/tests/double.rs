@@ -1,15 +1,15 @@
 //! The field in double precision, by other steps than the crate's: Schmidt's functions by recursions of
 //! their own, and rates as differences in time.
 use crate::entries::Set;
-use crate::synthesis::{coeff_index, M_LEN, N_MAX};
+use crate::tables::{coeff_index, M_LEN_MAX, N_MAX};
 
-type Table = [[f64; M_LEN]; M_LEN];
+type Table = [[f64; M_LEN_MAX]; M_LEN_MAX];
 
 /// Schmidt's functions of the colatitude, by degree and order, and their derivatives.
 fn schmidt(theta: f64) -> (Table, Table) {
     let (sin, cos) = theta.sin_cos();
-    let mut p = [[0.0; M_LEN]; M_LEN];
-    let mut dp = [[0.0; M_LEN]; M_LEN];
+    let mut p = [[0.0; M_LEN_MAX]; M_LEN_MAX];
+    let mut dp = [[0.0; M_LEN_MAX]; M_LEN_MAX];
     p[0][0] = 1.0;
     for n in 1..=N_MAX {
         for m in 0..=n {
@@ -60,17 +60,25 @@ impl There {
 
     /// X, Y and Z so many years after the epoch of the set.
     pub fn xyz(&self, set: &Set, offset: f64) -> [f64; 3] {
+        let at = |list: usize| -> Vec<f64> {
+            let mains = set.lists[list].iter().zip(&set.lists[list + 2]);
+            let at = |(main, rate): (&f32, &f32)| f64::from(*main) + offset * f64::from(*rate);
+            mains.map(at).collect()
+        };
+        self.sums(&at(0), &at(1))
+    }
+
+    /// X, Y and Z of these coefficients.
+    pub fn sums(&self, g: &[f64], h: &[f64]) -> [f64; 3] {
         let (r, theta, turn) = self.geocentric();
         let (p, dp) = schmidt(theta);
         let [mut north, mut east, mut down] = [0.0; 3];
-        for n in 1..=N_MAX {
+        // a list ends with its highest degree
+        let degrees = (1..=N_MAX).take_while(|n| coeff_index(*n, *n) < g.len());
+        for n in degrees {
             let scale = (6371200.0 / r).powi(n as i32 + 2);
             for m in 0..=n {
-                let at = |list: usize| {
-                    let entry = |list: usize| f64::from(set.lists[list][coeff_index(n, m)]);
-                    entry(list) + offset * entry(list + 2)
-                };
-                let (g, h) = (at(0), at(1));
+                let (g, h) = (g[coeff_index(n, m)], h[coeff_index(n, m)]);
                 let (sin, cos) = (m as f64 * self.longitude_deg.to_radians()).sin_cos();
                 north += scale * (g * cos + h * sin) * dp[n][m];
                 east += scale * m as f64 * (g * sin - h * cos) * p[n][m] / theta.sin();
@@ -81,13 +89,18 @@ impl There {
         [north * cos - down * sin, east, north * sin + down * cos]
     }
 
-    /// The yearly rates of X, Y, Z, declination, inclination, H and F: half of the difference of what is
-    /// a small time later and what is as much earlier, by that time.
+    /// The yearly rates of X, Y, Z, declination, inclination, H and F.
     pub fn rates(&self, set: &Set, offset: f64) -> [f64; 7] {
-        let small = 1e-3;
-        let [later, earlier] = [small, -small].map(|time| seven(self.xyz(set, offset + time)));
-        std::array::from_fn(|i| (later[i] - earlier[i]) / (2.0 * small))
+        rates_by(offset, |offset| self.xyz(set, offset))
     }
+}
+
+/// The yearly rates of what has these X, Y and Z: half of the difference of what is a small time later and
+/// what is as much earlier, by that time.
+pub fn rates_by(offset: f64, xyz: impl Fn(f64) -> [f64; 3]) -> [f64; 7] {
+    let small = 1e-3;
+    let [later, earlier] = [small, -small].map(|time| seven(xyz(offset + time)));
+    std::array::from_fn(|i| (later[i] - earlier[i]) / (2.0 * small))
 }
 
 /// X, Y, Z, declination and inclination in degrees, H and F.

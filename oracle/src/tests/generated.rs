@@ -128,12 +128,19 @@ fn cases_meet_every_edge() {
 }
 
 /// Every fault of a SUM, FIELD or RATES case, not only the one that is answered. A day's and a set's
-/// epoch count as two faults. Of RATES 21 counts where all entries that are good are zero.
+/// epoch count as two faults, and 23 counts beside a list of a third length too. Of RATES 21 counts where
+/// all entries that are good are zero.
 fn faults(case: &Case, set: &Set) -> Vec<&'static str> {
     let lists = &set.lists;
     let spoilt = |i: usize| lists[i].iter().any(|x| !within(*x, -CAPS[i], CAPS[i]));
+    let lengths = lists.each_ref().map(Vec::len);
+    let both = lengths.contains(&90) && lengths.contains(&104);
     let mut tests = vec![
-        ("6", lists.iter().any(|list| list.len() != 90)),
+        (
+            "6",
+            lengths.iter().any(|length| ![90, 104].contains(length)),
+        ),
+        ("23", both),
         ("7", (0..4).any(spoilt)),
     ];
     match *case {

@@ -4,7 +4,8 @@ use crate::entries::{epoch, field, horizontal, sum, uncertainty, zone, Refusal, 
 use crate::field::*;
 use crate::models::{error_model_by_epoch_year, model_by_epoch_year, WMM_ERROR_MODELS};
 use crate::roots::differs;
-use crate::synthesis::*;
+use crate::synthesis::coeff_at_t;
+use crate::tables::*;
 
 fn sum_bits(cos_theta: f32, sin_theta: f32, set: &Set) -> [u32; 3] {
     let (x, y, z) = sum(cos_theta, sin_theta, 0.0, 1.0, 1.0, 0.0, &set.lists).unwrap();

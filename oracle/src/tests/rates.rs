@@ -6,7 +6,7 @@ use crate::entries::{components as components_of, Place, Refusal, Set};
 use crate::models::{model_by_epoch_year, years_since_epoch};
 use crate::published::{lent, parse_row};
 use crate::rates::{rates, FieldAndRates};
-use crate::synthesis::coeff_index;
+use crate::tables::coeff_index;
 
 type Pair = (f32, f32);
 

@@ -106,13 +106,19 @@ fn is_zero(set: &Set, offset: f32) -> bool {
 
 #[test]
 fn weak_sets_are_weak() {
+    for length in [90, 104] {
+        weak_sets_of(length);
+    }
+}
+
+fn weak_sets_of(length: usize) {
     let mut rng = Rng::new(9);
     // by the kind of field: the sets that are zero on the day, and those on another than the first
     let mut zeros = BTreeMap::new();
     for way in (0..WEAK_SETS).cycle().take(8 * WEAK_SETS) {
-        let (set, (year, day)) = weak_set(&mut rng, way);
+        let (set, (year, day)) = weak_set(&mut rng, length, way);
         for (list, cap) in CAPS.into_iter().enumerate() {
-            assert_eq!(set.lists[list].len(), 90);
+            assert_eq!(set.lists[list].len(), length);
             assert!(set.lists[list].iter().all(|x| x.abs() <= cap), "{way}");
         }
         let offset = years_since_epoch(year, day, set.epoch_year);

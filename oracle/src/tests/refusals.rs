@@ -20,7 +20,7 @@ struct Call {
 type Fault = (u32, fn(&mut Call));
 
 /// Field's refusals, in its order.
-const FAULTS: [Fault; 9] = [
+const FAULTS: [Fault; 10] = [
     (1, |call| call.place.height = f32::NAN),
     (2, |call| call.place.cos_phi = 0.9),
     (3, |call| call.place.cos_lambda = f32::INFINITY),
@@ -28,9 +28,24 @@ const FAULTS: [Fault; 9] = [
     (5, |call| call.place.year = 2031),
     (5, |call| call.set.epoch_year = 2021),
     (6, |call| call.set.lists[3].truncate(89)),
+    (23, |call| other_degree(&mut call.set.lists[0])),
     (7, |call| call.set.lists[1][5] = 65536.01),
     (8, |call| call.set.epoch_year = 2025),
 ];
+
+/// Makes a list of 90 one of 104, and the other way round.
+fn other_degree(list: &mut Vec<f32>) {
+    let length = if list.len() == 90 { 104 } else { 90 };
+    list.resize(length, 0.0);
+}
+
+/// The published set of 2020, and the same with 14 entries more in each list.
+fn sets() -> [Set; 2] {
+    let set = Set::of(model_by_epoch_year(2020).unwrap());
+    let mut longer = set.clone();
+    longer.lists.iter_mut().for_each(other_degree);
+    [set, longer]
+}
 
 /// No field, and so no H.
 const NO_FIELD: Fault = (21, |call| {
@@ -43,8 +58,14 @@ fn number(refusal: Refusal) -> u32 {
     refusal.number()
 }
 
-/// Each fault alone, and of every two the first.
+/// Each fault alone, and of every two the first, with a set of either degree.
 fn refuses_in_order(faults: &[Fault], ask: fn(&Call) -> u32) {
+    for set in sets() {
+        set_refuses_in_order(faults, ask, set);
+    }
+}
+
+fn set_refuses_in_order(faults: &[Fault], ask: fn(&Call) -> u32, set: Set) {
     let good = Call {
         place: Place {
             height: 100.0,
@@ -55,7 +76,7 @@ fn refuses_in_order(faults: &[Fault], ask: fn(&Call) -> u32) {
             year: 2022,
             day: 100,
         },
-        set: Set::of(model_by_epoch_year(2020).unwrap()),
+        set,
     };
     assert_eq!(ask(&good), 0);
     for (i, (first, spoil)) in faults.iter().enumerate() {
@@ -99,25 +120,27 @@ fn sum_refuses_in_order() {
         let ((c, s), (sl, cl), ratio, offset, set) = call;
         sum(*c, *s, *sl, *cl, *ratio, *offset, &set.lists).map_or_else(number, |_| 0)
     };
-    let set = Set::of(model_by_epoch_year(2025).unwrap());
-    let good: Call = ((0.6, 0.8), (0.0, -1.0), 1.0, 2.5, set);
-    assert_eq!(ask(&good), 0);
-    let faults: [Fault; 6] = [
+    let faults: [Fault; 7] = [
         (9, |call| call.0 = (1.0, 1.0)),
         (3, |call| call.1 = (f32::NAN, 0.0)),
         (10, |call| call.2 = 1.02),
         (11, |call| call.3 = -1e-45),
         (6, |call| call.4.lists[0].push(0.0)),
+        (23, |call| other_degree(&mut call.4.lists[2])),
         (7, |call| call.4.lists[2][0] = 4096.5),
     ];
-    for (i, (first, spoil)) in faults.iter().enumerate() {
-        let mut call = good.clone();
-        spoil(&mut call);
-        assert_eq!(ask(&call), *first);
-        for (second, spoil) in &faults[i + 1..] {
-            let mut both = call.clone();
-            spoil(&mut both);
-            assert_eq!(ask(&both), *first, "{first} and {second}");
+    for set in sets() {
+        let good: Call = ((0.6, 0.8), (0.0, -1.0), 1.0, 2.5, set);
+        assert_eq!(ask(&good), 0);
+        for (i, (first, spoil)) in faults.iter().enumerate() {
+            let mut call = good.clone();
+            spoil(&mut call);
+            assert_eq!(ask(&call), *first);
+            for (second, spoil) in &faults[i + 1..] {
+                let mut both = call.clone();
+                spoil(&mut both);
+                assert_eq!(ask(&both), *first, "{first} and {second}");
+            }
         }
     }
 }

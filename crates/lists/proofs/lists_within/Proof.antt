@@ -30,7 +30,7 @@ returns c =
     let t = c .before in
     let s = t .before in
     let f = s .before in
-    flags-decide _ _ _ _ _ _ _ _ (f .outside-flag .ensures .0) (s .outside-flag2 .ensures .0) (t .outside-flag3 .ensures .0) (c .outside-flag4 .ensures .0)
+    flags-decide _ _ _ _ _ _ _ _ _ (f .outside-flag .ensures .0) (s .outside-flag2 .ensures .0) (t .outside-flag3 .ensures .0) (c .outside-flag4 .ensures .0)
 
 pub lists-within-spec : {M : Type 1} → statement M
 lists-within-spec =

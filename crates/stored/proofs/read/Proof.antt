@@ -8,7 +8,7 @@ use borrow.Author.Needs.{needs}
 use Rattle.stored.proofs.read.Statement.{statement}
 use Rattle.stored.proofs.read.Tie as tie
 use Rattle.lists.proofs.lists_long.Reads as lists-long-reads
-use Rattle.stored.proofs.read_by.Reads as read-by-reads
+use Rattle.stored.proofs.read_ninety.Reads as read-ninety-reads
 
 lists-long-requires : tie.Need-lists-long-requires
 lists-long-requires c κs = search needs
@@ -31,24 +31,12 @@ returns c =
     let a = w .before .before .before .before .before .before .before .before .before .before .args in
     (not-ninety (a .bytes .now) (lists-of (a .g .now) (a .h .now) (a .g-dot .now) (a .h-dot .now)) _ (w .lists-long .ensures .0) (c .if1 .taken), refl)
 
-slice-aggregate-read-by : tie.Need-slice-aggregate-read-by
-slice-aggregate-read-by c = search needs
-
-slice-aggregate-read-by-2 : tie.Need-slice-aggregate-read-by-2
-slice-aggregate-read-by-2 c = search needs
-
-slice-aggregate-read-by-3 : tie.Need-slice-aggregate-read-by-3
-slice-aggregate-read-by-3 c = search needs
-
-slice-aggregate-read-by-4 : tie.Need-slice-aggregate-read-by-4
-slice-aggregate-read-by-4 c = search needs
-
-read-by-requires : tie.Need-read-by-requires
-read-by-requires c κs =
-    let o = c .before .before .before .before .before .before .before .before in
+read-ninety-requires : tie.Need-read-ninety-requires
+read-ninety-requires c κs =
+    let o = c .before .before .before .before in
     let l = o .before in
     let a = l .before .before .before .before .before .before .before .before .before .before .args in
-    (each-long (a .g .now) (a .h .now) (a .g-dot .now) (a .h-dot .now) (sym (l .lists-long .ensures .0) ∙ not-false _ (o .if1 .left)), (refl, refl, refl, refl))
+    each-long (a .g .now) (a .h .now) (a .g-dot .now) (a .h-dot .now) (sym (l .lists-long .ensures .0) ∙ not-false _ (o .if1 .left))
 
 same-length-5 : tie.Need-same-length-5
 same-length-5 c = search needs
@@ -64,11 +52,11 @@ same-length-8 c = search needs
 
 returns-2 : tie.Need-returns-2
 returns-2 c =
-    let w = c .before .before .before .before .before .before .before .before .before .before .before .before in
-    let o = w .before .before .before .before .before .before .before .before .before in
+    let w = c .before .before .before .before .before .before .before .before in
+    let o = w .before .before .before .before .before in
     let l = o .before in
     let a = l .before .before .before .before .before .before .before .before .before .before .args in
-    (w .read-by .ensures ∙ ninety (a .bytes .now) (lists-of (a .g .now) (a .h .now) (a .g-dot .now) (a .h-dot .now)) _ (l .lists-long .ensures .0) (o .if1 .left), refl)
+    (w .read-ninety .ensures ∙ ninety (a .bytes .now) (lists-of (a .g .now) (a .h .now) (a .g-dot .now) (a .h-dot .now)) _ (l .lists-long .ensures .0) (o .if1 .left), refl)
 
 pub read-spec : {M : Type 1} → statement M
 read-spec =
@@ -80,11 +68,7 @@ read-spec =
     same-length-3
     same-length-4
     returns
-    slice-aggregate-read-by
-    slice-aggregate-read-by-2
-    slice-aggregate-read-by-3
-    slice-aggregate-read-by-4
-    read-by-requires
+    read-ninety-requires
     same-length-5
     same-length-6
     same-length-7

@@ -6,7 +6,7 @@ use lib.ListN.{length}
 use mir.Syntax.{w32}
 use mir.ValLaws.{toZ-pos}
 use Rattle.lists.specs.Sets.{lists-of}
-use Rattle.stored.specs.Layout.{STORED}
+use Rattle.stored.specs.Layout.{storedLength}
 use Rattle.stored.proofs.Answers.{refused-bytes, taken-bytes, taken-long}
 use borrow.Author.Needs.{needs}
 use Rattle.stored.proofs.read_by.Statement.{statement}
@@ -16,11 +16,11 @@ use Rattle.stored.proofs.take.lists.Reads as lists-reads
 use Rattle.stored.proofs.take.two_at.Reads as two-at-reads
 
 -- where nothing is refused, the bytes are as long as a set
-long-enough : (t : tie.After-enum-told) → length (t .before .before .before .before .before .before .before .before .before .before .before .before .before .before .before .before .before .before .before .before .before .before .before .before .args .bytes .now) ≡ STORED
+long-enough : (t : tie.After-enum-told) → (let a = t .before .before .before .before .before .before .before .before .before .before .before .before .before .before .before .before .before .before .before .before .before .before .before .before .args in length (a .bytes .now) ≡ storedLength (a .entries))
 long-enough t =
     let w = t .before .before .before .before .before .before .before .before .before .before in
     let a = w .before .before .before .before .before .before .before .before .before .before .before .before .before .before .args in
-    taken-long (a .bytes .now) (lists-of (a .g .now) (a .h .now) (a .g-dot .now) (a .h-dot .now)) (w .checked .result) (w .checked .ensures) (t .enum-told .given .1)
+    taken-long (a .entries) (a .bytes .now) (lists-of (a .g .now) (a .h .now) (a .g-dot .now) (a .h-dot .now)) (w .checked .result) (w .checked .ensures) (t .enum-told .given .1)
 
 checked-requires : tie.Need-checked-requires
 checked-requires c κs = search needs
@@ -44,19 +44,19 @@ returns : tie.Need-returns
 returns c =
     let w = c .before .before .before .before .before .before .before .before .before .before .before in
     let a = w .before .before .before .before .before .before .before .before .before .before .before .before .before .before .args in
-    refused-bytes (a .bytes .now) (lists-of (a .g .now) (a .h .now) (a .g-dot .now) (a .h-dot .now)) (w .checked .result) (w .checked .ensures) (c .before .k .given .0 .0) (c .before .k .given .1)
+    refused-bytes (a .entries) (a .bytes .now) (lists-of (a .g .now) (a .h .now) (a .g-dot .now) (a .h-dot .now)) (w .checked .result) (w .checked .ensures) (c .before .k .given .0 .0) (c .before .k .given .1)
 
 enum-told : tie.Need-enum-told
 enum-told c = search needs
 
 lists-requires : tie.Need-lists-requires
-lists-requires c κs = let t = c .before .before .before .before in (let l = long-enough t in omega (arith, l), t .before .before .before .before .before .before .before .before .before .before .before .before .before .before .before .before .before .before .before .before .before .before .before .before .pre .0)
+lists-requires c κs = let t = c .before .before .before .before in (let l = long-enough t in omega (arith, l), t .before .before .before .before .before .before .before .before .before .before .before .before .before .before .before .before .before .before .before .before .before .before .before .before .pre .1 .0)
 
 two-at-requires : tie.Need-two-at-requires
 two-at-requires c κs = let l = long-enough (c .before .before .before .before .before .before .before .before .before .before .before .before .before) in omega (arith, l)
 
-cast-t30 : tie.Need-cast-t30
-cast-t30 c = search needs
+cast-t31 : tie.Need-cast-t31
+cast-t31 c = search needs
 
 same-length-5 : tie.Need-same-length-5
 same-length-5 c = search needs
@@ -90,7 +90,7 @@ returns-2 c =
     let a = w .before .before .before .before .before .before .before .before .before .before .before .before .before .before .args in
     let y = c .two-at .ensures .1 in
     let e = toZ-pos w32 (c .two-at .result) (omega (arith, y)) ∙ ap pos (c .two-at .ensures .0) in
-    taken-bytes (a .bytes .now) (lists-of (a .g .now) (a .h .now) (a .g-dot .now) (a .h-dot .now)) (w .checked .result) (w .checked .ensures) (t .enum-told .given .1) _ e _ (i .lists .ensures)
+    taken-bytes (a .entries) (a .bytes .now) (lists-of (a .g .now) (a .h .now) (a .g-dot .now) (a .h-dot .now)) (w .checked .result) (w .checked .ensures) (t .enum-told .given .1) _ e _ (i .lists .ensures)
 
 pub read-by-spec : {M : Type 1} → statement M
 read-by-spec =
@@ -106,7 +106,7 @@ read-by-spec =
     enum-told
     lists-requires
     two-at-requires
-    cast-t30
+    cast-t31
     same-length-5
     same-length-6
     same-length-7

@@ -3,9 +3,9 @@ use mathlib.Core.Bool.{Bool}
 use denote.Ref.{now}
 use Rattle.synthesis.specs.Sum.{Lent, lent}
 use borrow.Author.Needs.{needs}
-use Rattle.lists.proofs.Checked.{same}
+use Rattle.lists.proofs.Checked.{lengths-long, same}
 use Rattle.synthesis.proofs.NumberChecks.{numbered}
-use Rattle.synthesis.proofs.Answers.{long-by, refused-numbers, refused-lists, summed}
+use Rattle.synthesis.proofs.Answers.{lengths-by, refused-numbers, refused-lists, summed}
 use Rattle.synthesis.proofs.sum_by.Statement.{statement}
 use Rattle.synthesis.proofs.sum_by.Tie as tie
 
@@ -55,7 +55,7 @@ synthesize-geocentric-xyz-requires c κs =
     let l = k .before in
     let n = same (k .check-numbers .ensures) (o .enum-told .given .1) in
     let e = same (l .lists-by .ensures) (c .enum-told2 .given .1) in
-    (long-by (looks l) (asks l) e, numbered _ _ _ _ _ _ n .0)
+    (lengths-long _ _ _ _ (lengths-by (looks l) (asks l) e), numbered _ _ _ _ _ _ n .0)
 
 returns-3 : tie.Need-returns-3
 returns-3 c =

@@ -5,7 +5,7 @@ use lib.Dec.{le→leb}
 use lib.Ieee.{inFloat}
 use Rattle.sums.specs.Recurrence.{lit}
 use Rattle.bounds.specs.Bounds.{bounds}
-use Rattle.allowance.specs.Code.{degreeOf}
+use Rattle.allowance.specs.Code.{degreePart}
 use Rattle.allowance.proofs.Lits.{abs-one, lit-size}
 use Rattle.allowance.proofs.general.degree_part.Statement.{statement}
 use Rattle.allowance.proofs.general.degree_part.Tie as tie
@@ -15,7 +15,7 @@ unfolding inFloat
 int-to-float-degree c = le→leb (c .before .args .n) (2 ^ 24) (omega arith)
 
 returns : tie.Need-returns
-unfolding degreeOf bounds lit
+unfolding degreePart bounds lit
 returns c = rw (← lit-size (c .before .before .before .before .args .n), abs-one)
 
 pub degree-part-spec : {M : Type 1} → statement M

@@ -2,8 +2,11 @@
 use Prim.Native.Nat.{_^_}
 use native.Mathlib.Omega.{arith}
 use borrow.Author.Needs.{needs}
+use denote.Ref.{now}
 use lib.Dec.{le→leb}
+use lib.ListN.{length}
 use lib.Ieee.{inFloat}
+use Rattle.tables.proofs.Degrees.{degree-high}
 use Rattle.sums.specs.Recurrence.{gc-hs, gs-hc, lit}
 use Rattle.sums.specs.Paths.{placed}
 use Rattle.synthesis.specs.Sum.{inputs}
@@ -21,7 +24,9 @@ parts-at-requires c κs = search needs
 
 int-to-float-order : tie.Need-int-to-float-order
 unfolding inFloat
-int-to-float-order c = le→leb (c .before .before .before .before .before .before .before .args .m) (2 ^ 24) (omega arith)
+int-to-float-order c =
+    let s = c .before .before .before .before .before .before .before in
+    le→leb (s .args .m) (2 ^ 24) (omega (arith, s .pre .1, s .pre .2, degree-high (length (now (s .args .g)))))
 
 returns : tie.Need-returns
 unfolding partsOf bounds lit gc-hs gs-hc inputs placed

@@ -1,7 +1,10 @@
 -- `allowance::near_pole::pole_part` meets its contract. Assumes nothing.
 use mathlib.Core.Path.{refl, ap, _∙_}
 use native.Mathlib.Omega.{arith}
+use denote.Ref.{now}
+use lib.ListN.{length}
 use Rattle.exact.specs.Tests.{abs}
+use Rattle.tables.proofs.Degrees.{degree-high}
 use Rattle.synthesis.proofs.GeneralSum.{s-place}
 use Rattle.allowance.proofs.Degrees.{pole-degree-is}
 use borrow.Author.Needs.{needs}
@@ -27,7 +30,9 @@ schmidt-table-requires : tie.Need-schmidt-table-requires
 schmidt-table-requires c κs = search needs
 
 legendre-index-requires : tie.Need-legendre-index-requires
-legendre-index-requires c κs = search needs
+legendre-index-requires c κs =
+    let s = c .before .before .before .before .before .before .before .before .before in
+    (omega (arith, s .pre .0, degree-high (length (now (s .args .g)))), omega arith)
 
 mul-abs : tie.Need-mul-abs
 mul-abs c = search needs
@@ -39,12 +44,14 @@ abs-requires : tie.Need-abs-requires
 abs-requires c κs = search needs
 
 quotient-of-requires : tie.Need-quotient-of-requires
-quotient-of-requires c κs = c .before .before .before .before .before .before .before .before .before .before .before .pre .0
+quotient-of-requires c κs =
+    let s = c .before .before .before .before .before .before .before .before .before .before .before in
+    omega (arith, s .pre .0, degree-high (length (now (s .args .g))))
 
 degree-part-requires : tie.Need-degree-part-requires
 degree-part-requires c κs =
     let s = c .before .before .before .before .before .before .before .before .before .before .before .before .before .before .before .before in
-    omega (arith, s .pre .0)
+    omega (arith, s .pre .0, degree-high (length (now (s .args .g))))
 
 returns : tie.Need-returns
 returns c =

@@ -2,7 +2,9 @@
 use mathlib.Core.Path.{_≡_, _∙_}
 use Prim.Native.Nat.{_-_, _≤_}
 use native.Mathlib.Omega.{arith}
-use Rattle.tables.specs.Degree.{N-MAX}
+use denote.Ref.{now}
+use lib.ListN.{length}
+use Rattle.tables.specs.Degree.{degreeOf}
 use Rattle.sums.specs.Recurrence.{pole-x, pole-y, pole-z, power, total}
 use Rattle.sums.specs.Paths.{placed}
 use Rattle.synthesis.specs.Sum.{inputs}
@@ -15,22 +17,27 @@ use Rattle.allowance.proofs.near_pole.synthesize_near_pole.Statement.{s
 use Rattle.allowance.proofs.near_pole.synthesize_near_pole.Tie as tie
 
 abbrev Inv-loop : tie.InvT-loop
-Inv-loop q g h g-dot h-dot ratio a-over-r-n2₀ tot₀ j₀ a-over-r-n2 tot j =
-    (j ≤ N-MAX) × (a-over-r-n2 ≡ power bounds (inputs bounds (lentAt q g h g-dot h-dot)) j) × (tot ≡ nearPole (lentAt q g h g-dot h-dot) j)
+Inv-loop q g h g-dot h-dot ratio a-over-r-n2₀ tot₀ top j₀ a-over-r-n2 tot j =
+    (j ≤ top) × (top ≡ degreeOf (length g)) × (a-over-r-n2 ≡ power bounds (inputs bounds (lentAt q g h g-dot h-dot)) j) × (tot ≡ nearPole (lentAt q g h g-dot h-dot) j)
 
 abbrev μ-loop : tie.MeasureT-loop
-μ-loop q g h g-dot h-dot ratio a-over-r-n2₀ tot₀ j₀ a-over-r-n2 tot j =
-    N-MAX - j
+μ-loop q g h g-dot h-dot ratio a-over-r-n2₀ tot₀ top j₀ a-over-r-n2 tot j =
+    top - j
 
 abs-requires : tie.Need-abs-requires Inv-loop μ-loop
 abs-requires c κs = search needs
 
+degree-of-requires : tie.Need-degree-of-requires Inv-loop μ-loop
+degree-of-requires c κs = search needs
+
 loop-holds : tie.Need-loop-holds Inv-loop μ-loop
 unfolding power total pole-x pole-y pole-z inputs placed bounds
-loop-holds c = (search needs, rw (c .abs .ensures), rw abs-zero)
+loop-holds c = (search needs, c .degree-of .ensures, rw (c .before .abs .ensures), rw abs-zero)
 
 pole-part-requires : tie.Need-pole-part-requires Inv-loop μ-loop
-pole-part-requires c κs = search needs
+pole-part-requires c κs =
+    let l = c .before in
+    (omega (arith, c .loop-test .taken, l .loop .inv .1), l .before .before .before .before .before .before .before .pre)
 
 plus-requires : tie.Need-plus-requires Inv-loop μ-loop
 plus-requires c κs = search needs
@@ -46,13 +53,13 @@ loop-again c =
     let d = c .before in
     let l = d .before .before in
     let e = l .loop .inv in
-    (search needs, more-power _ _ _ _ (e .1) (l .before .abs .ensures), more-pole-degrees _ _ _ _ _ _ (e .1) (e .2) (d .pole-part .ensures) (c .plus .ensures))
+    (search needs, e .1, more-power _ _ _ _ (e .2) (l .before .before .abs .ensures), more-pole-degrees _ _ _ _ _ _ (e .2) (e .3) (d .pole-part .ensures) (c .plus .ensures))
 
 returns : tie.Need-returns Inv-loop μ-loop
 returns c =
     let l = c .before in
-    let e : l .loop .j ≡ N-MAX = omega arith in
-    l .loop .inv .2 ∙ rw e
+    let e : l .loop .j ≡ degreeOf (length (now (l .before .before .before .before .before .before .before .args .g))) = omega (arith, l .loop .inv .0, l .loop .inv .1) in
+    l .loop .inv .3 ∙ rw e
 
 pub synthesize-near-pole-spec : {M : Type 1} → statement M
 synthesize-near-pole-spec =
@@ -61,6 +68,7 @@ synthesize-near-pole-spec =
     Inv-loop
     μ-loop
     abs-requires
+    degree-of-requires
     loop-holds
     pole-part-requires
     plus-requires

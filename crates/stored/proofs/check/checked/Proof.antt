@@ -16,7 +16,8 @@ enum-known-k c = search needs
 returns : tie.Need-returns
 returns c =
     let f = c .before .before .before in
-    no-frame (f .before .before .before .before .before .before .args .bytes .now) (f .framed .result) (f .framed .ensures) (c .before .k .given .0 .0) (c .before .k .given .1)
+    let a = f .before .before .before .before .before .before .args in
+    no-frame (a .entries) (a .bytes .now) (f .framed .result) (f .framed .ensures) (c .before .k .given .0 .0) (c .before .k .given .1)
 
 enum-told : tie.Need-enum-told
 enum-told c = search needs
@@ -26,8 +27,8 @@ capped-requires c κs =
     let t = c .before .before .before .before in
     let f = t .before .before in
     let s = f .before .before .before .before .before .before in
-    let l = frame-long (s .args .bytes .now) (f .framed .result) (f .framed .ensures) (t .enum-told .given .1) in
-    (omega (arith, l), s .pre)
+    let l = frame-long (s .args .entries) (s .args .bytes .now) (f .framed .result) (f .framed .ensures) (t .enum-told .given .1) in
+    (omega (arith, l), s .pre .1)
 
 same-length : tie.Need-same-length
 same-length c = search needs
@@ -46,7 +47,8 @@ returns-2 c =
     let w = c .before .before .before .before .before .before .before .before in
     let t = w .before .before .before .before .before in
     let f = t .before .before in
-    in-frame (f .before .before .before .before .before .before .args .bytes .now) (f .framed .result) (f .framed .ensures) (t .enum-told .given .1) (w .capped .result) (w .capped .ensures)
+    let a = f .before .before .before .before .before .before .args in
+    in-frame (a .entries) (a .bytes .now) (f .framed .result) (f .framed .ensures) (t .enum-told .given .1) (w .capped .result) (w .capped .ensures)
 
 pub checked-spec : {M : Type 1} → statement M
 checked-spec =

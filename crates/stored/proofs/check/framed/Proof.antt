@@ -4,8 +4,8 @@ use Prim.Native.Nat.{_+_, _-_, _*_, _≤_}
 use native.Mathlib.Omega.{arith}
 use borrow.Author.Needs.{needs}
 use lib.ListN.{drop}
-use Rattle.stored.specs.Layout.{contents}
-use Rattle.stored.specs.Stored.{fieldsVerdict, frameVerdict}
+use Rattle.stored.specs.Layout.{contentsOf}
+use Rattle.stored.specs.Stored.{fieldsVerdict, frameOf}
 use Rattle.stored.proofs.Frame.{field-bad, field-good, left-over, all-taken}
 use Rattle.stored.proofs.check.framed.Statement.{statement}
 use Rattle.stored.proofs.check.framed.Tie as tie
@@ -13,11 +13,11 @@ use Rattle.stored.proofs.check.field.Reads as field-reads
 use Rattle.stored.proofs.layout.content_length.Reads as content-length-reads
 
 abbrev Inv-loop : tie.InvT-loop
-Inv-loop bytes at₀ i₀ at i =
-    (i ≤ 5) × (at ≤ 363 * i) × (frameVerdict bytes ≡ fieldsVerdict (drop i contents) (i + 1) at bytes)
+Inv-loop bytes entries at₀ i₀ at i =
+    (i ≤ 5) × (at ≤ 419 * i) × (frameOf entries bytes ≡ fieldsVerdict (drop i (contentsOf entries)) (i + 1) at bytes)
 
 abbrev μ-loop : tie.MeasureT-loop
-μ-loop bytes at₀ i₀ at i =
+μ-loop bytes entries at₀ i₀ at i =
     5 - i
 
 loop-holds : tie.Need-loop-holds Inv-loop μ-loop
@@ -45,7 +45,7 @@ returns c =
     let n = f .before in
     let o = n .before .before in
     let s = o .before .before .args .bytes .now in
-    field-bad contents s (o .loop .i) (o .loop .at) (n .content-length .result) _ (n .before .loop-test .taken) (n .content-length .ensures .0) (o .loop .inv .2) (f .field .result) (f .field .ensures) (c .before .k .given .0 .0) (c .before .k .given .1)
+    field-bad (contentsOf (o .before .before .args .entries)) s (o .loop .i) (o .loop .at) (n .content-length .result) _ (n .before .loop-test .taken) (n .content-length .ensures .0) (o .loop .inv .2) (f .field .result) (f .field .ensures) (c .before .k .given .0 .0) (c .before .k .given .1)
 
 enum-told : tie.Need-enum-told Inv-loop μ-loop
 enum-told c = search needs
@@ -73,20 +73,20 @@ loop-again c =
     let m = n .content-length .ensures .1 in (
       search needs,
       omega (arith, b, m),
-      field-good contents s (o .loop .i) (o .loop .at) (n .content-length .result) _ t (n .content-length .ensures .0) (o .loop .inv .2) (f .field .result) (f .field .ensures) (c .enum-told .given .1),
+      field-good (contentsOf (o .before .before .args .entries)) s (o .loop .i) (o .loop .at) (n .content-length .result) _ t (n .content-length .ensures .0) (o .loop .inv .2) (f .field .result) (f .field .ensures) (c .enum-told .given .1),
     )
 
 returns-2 : tie.Need-returns-2 Inv-loop μ-loop
 returns-2 c =
     let o = c .before .before in
     let s = o .before .before .args .bytes .now in
-    left-over contents s (o .loop .i) (o .loop .at) _ (search needs) (o .loop .inv .2) (c .if1 .taken)
+    left-over (contentsOf (o .before .before .args .entries)) s (o .loop .i) (o .loop .at) _ (search needs) (o .loop .inv .2) (c .if1 .taken)
 
 returns-3 : tie.Need-returns-3 Inv-loop μ-loop
 returns-3 c =
     let o = c .before .before in
     let s = o .before .before .args .bytes .now in
-    all-taken contents s (o .loop .i) (o .loop .at) _ (search needs) (o .loop .inv .2) (c .if1 .left)
+    all-taken (contentsOf (o .before .before .args .entries)) s (o .loop .i) (o .loop .at) _ (search needs) (o .loop .inv .2) (c .if1 .left)
 
 pub framed-spec : {M : Type 1} → statement M
 framed-spec =

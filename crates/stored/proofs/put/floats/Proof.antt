@@ -7,7 +7,6 @@ use borrow.Author.Needs.{needs}
 use lib.ListN.{length, take}
 use lib.Seq.{length-sets, sets, take-all}
 use lib.Ieee.{Float}
-use Rattle.tables.specs.Degree.{N-COEFF}
 use Rattle.stored.specs.Layout.{bytesOf}
 use Rattle.stored.proofs.Stores.{stored-on}
 use Rattle.stored.proofs.put.floats.Statement.{statement}
@@ -17,11 +16,11 @@ use Rattle.stored.proofs.put.four.Reads as four-reads
 
 abbrev Inv-loop : tie.InvT-loop
 Inv-loop bytes₀ at list i₀ bytes i =
-    (i ≤ N-COEFF) × (bytes ≡ sets bytes₀ at (bytesOf (take i list)))
+    (i ≤ length list) × (bytes ≡ sets bytes₀ at (bytesOf (take i list)))
 
 abbrev μ-loop : tie.MeasureT-loop
 μ-loop bytes₀ at list i₀ bytes i =
-    N-COEFF - i
+    length list - i
 
 loop-holds : tie.Need-loop-holds Inv-loop μ-loop
 unfolding bytesOf
@@ -33,7 +32,7 @@ mul-four c = search needs
 add-four : tie.Need-add-four Inv-loop μ-loop
 add-four c =
     let o = c .before .before in
-    let p = o .before .before .before .pre .0 in
+    let p = o .before .before .before .pre in
     let g = o .before .before .before .good in
     search needs
 
@@ -41,7 +40,7 @@ mul-to-bits : tie.Need-mul-to-bits Inv-loop μ-loop
 mul-to-bits c = search needs
 
 shared-slice-read-to-bits : tie.Need-shared-slice-read-to-bits Inv-loop μ-loop
-shared-slice-read-to-bits c = let l = c .before .before .before .before .before .before .pre .1 in search needs
+shared-slice-read-to-bits c = search needs
 
 to-bits-requires : tie.Need-to-bits-requires Inv-loop μ-loop
 to-bits-requires c κs = search needs
@@ -51,7 +50,7 @@ four-requires c κs =
     let o = c .before .before .before .before in
     let s = o .before .before .before in
     let a = s .args in
-    let p = s .pre .0 in
+    let p = s .pre in
     let t = c .before .before .before .loop-test .taken in
     let e = ap length (o .loop .inv .1) ∙ length-sets (a .bytes .now) (a .at) (bytesOf (take (o .loop .i) (a .list .now))) in
     omega (arith, p, t, e)
@@ -68,10 +67,9 @@ loop-again c =
     let o = w .before .before .before .before .before in
     let s = o .before .before .before in
     let a = s .args in
-    let n = s .pre .1 in
     let t = w .before .before .before .before .loop-test .taken in (
       search needs,
-      w .four .ensures ∙ stored-on (a .bytes .now) (a .at) (a .list .now) (o .loop .i) (omega (arith, n, t)) (o .loop .bytes) (o .loop .inv .1) _ (w .before .to-bits .ensures),
+      w .four .ensures ∙ stored-on (a .bytes .now) (a .at) (a .list .now) (o .loop .i) t (o .loop .bytes) (o .loop .inv .1) _ (w .before .to-bits .ensures),
     )
 
 same-length : tie.Need-same-length Inv-loop μ-loop
@@ -85,9 +83,8 @@ returns c =
     let o = c .before in
     let s = o .before .before .before in
     let a = s .args in
-    let n = s .pre .1 in
-    let i : o .loop .i ≡ N-COEFF = search needs in
-    o .loop .inv .1 ∙ ap (λ (l : List Float). sets (a .bytes .now) (a .at) (bytesOf l)) (take-all (o .loop .i) (a .list .now) (omega (arith, n, i)))
+    let i : o .loop .i ≡ length (a .list .now) = search needs in
+    o .loop .inv .1 ∙ ap (λ (l : List Float). sets (a .bytes .now) (a .at) (bytesOf l)) (take-all (o .loop .i) (a .list .now) (omega (arith, i)))
 
 pub floats-spec : {M : Type 1} → statement M
 floats-spec =

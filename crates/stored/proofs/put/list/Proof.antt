@@ -3,14 +3,17 @@ use mathlib.Core.Path.{ap, _∙_}
 use mathlib.Core.List.{List}
 use Prim.Native.Nat.{ℕ, _+_}
 use lib.Seq.{sets}
-use Rattle.stored.specs.Layout.{HEAD, LIST, bytesOf}
-use Rattle.stored.proofs.Floats.{list-long}
+use Rattle.stored.specs.Layout.{HEAD, bytesOf, listLength}
+use Rattle.stored.proofs.Floats.{length-bytes}
 use Rattle.stored.proofs.Stores.{field-stored}
 use borrow.Author.Needs.{needs}
 use Rattle.stored.proofs.put.list.Statement.{statement}
 use Rattle.stored.proofs.put.list.Tie as tie
 use Rattle.stored.proofs.put.floats.Reads as floats-reads
 use Rattle.stored.proofs.put.head.Reads as head-reads
+
+mul-head : tie.Need-mul-head
+mul-head c = search needs
 
 head-requires : tie.Need-head-requires
 head-requires c κs = search needs
@@ -32,7 +35,7 @@ returns c =
     let a = s .args in
     w .floats .ensures
     ∙ ap (λ (l : List ℕ). sets l (a .at + HEAD) (bytesOf (a .list .now))) (h .head .ensures)
-    ∙ field-stored (a .bytes .now) (a .at) (a .tag) (bytesOf (a .list .now)) LIST (list-long (a .list .now) (s .pre .1))
+    ∙ field-stored (a .bytes .now) (a .at) (a .tag) (bytesOf (a .list .now)) _ (length-bytes (a .list .now))
 
 pub list-spec : {M : Type 1} → statement M
-list-spec = tie.close (tie.spec head-requires add-floats floats-requires same-length returns)
+list-spec = tie.close (tie.spec mul-head head-requires add-floats floats-requires same-length returns)

@@ -9,7 +9,6 @@ use lib.ListN.{length, set, take, drop, drop-of-length-le, length-set}
 use lib.Seq.{drop-drop}
 use lib.Ieee.{Float}
 use Rattle.float32.specs.Bits.{floatOf}
-use Rattle.tables.specs.Degree.{N-COEFF}
 use Rattle.stored.specs.Layout.{floatsIn, number}
 use Rattle.stored.proofs.Floats.{entry-taken}
 use Rattle.stored.proofs.take.list.Statement.{statement}
@@ -18,12 +17,12 @@ use Rattle.float32.proofs.from_bits.Reads as from-bits-reads
 use Rattle.stored.proofs.take.four_at.Reads as four-at-reads
 
 abbrev Inv-loop : tie.InvT-loop
-Inv-loop bytes at to₀ i₀ to i =
-    (i ≤ N-COEFF) × (to ≡ floatsIn i (drop at bytes) ++ drop i to₀) × (length to ≡ N-COEFF)
+Inv-loop bytes at entries to₀ i₀ to i =
+    (i ≤ entries) × (to ≡ floatsIn i (drop at bytes) ++ drop i to₀) × (length to ≡ entries)
 
 abbrev μ-loop : tie.MeasureT-loop
-μ-loop bytes at to₀ i₀ to i =
-    N-COEFF - i
+μ-loop bytes at entries to₀ i₀ to i =
+    entries - i
 
 loop-holds : tie.Need-loop-holds Inv-loop μ-loop
 unfolding floatsIn
@@ -87,11 +86,11 @@ returns c =
     let s = o .before .before .before in
     let a = s .args in
     let n = s .pre .1 in
-    let i : o .loop .i ≡ N-COEFF = search needs in
+    let i : o .loop .i ≡ a .entries = search needs in
     o .loop .inv .1
     ∙ ap (λ (k : ℕ). floatsIn k (drop (a .at) (a .bytes .now)) ++ drop k (a .to .now)) i
-    ∙ ap (λ (r : List Float). floatsIn N-COEFF (drop (a .at) (a .bytes .now)) ++ r) (drop-of-length-le (a .to .now) {i = N-COEFF} (omega (arith, n)))
-    ∙ append-nil (floatsIn N-COEFF (drop (a .at) (a .bytes .now)))
+    ∙ ap (λ (r : List Float). floatsIn (a .entries) (drop (a .at) (a .bytes .now)) ++ r) (drop-of-length-le (a .to .now) {i = a .entries} (omega (arith, n)))
+    ∙ append-nil (floatsIn (a .entries) (drop (a .at) (a .bytes .now)))
 
 pub list-spec : {M : Type 1} → statement M
 list-spec =

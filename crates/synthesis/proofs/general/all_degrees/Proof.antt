@@ -1,4 +1,5 @@
 -- `synthesis::general::all_degrees` meets its contract: it hands the terms and their sums what they ask for. Assumes nothing.
+use native.Mathlib.Omega.{arith}
 use borrow.Author.Needs.{needs}
 use Rattle.synthesis.proofs.TermsHold.{zeros-sized}
 use Rattle.synthesis.proofs.GeneralSum.{fresh-start, started, weighed}
@@ -27,7 +28,7 @@ put-all-terms-requires : tie.Need-put-all-terms-requires
 put-all-terms-requires c κs = search needs
 
 add-degrees-requires : tie.Need-add-degrees-requires
-add-degrees-requires c κs = search needs
+add-degrees-requires c κs = omega (arith, c .before .before .before .before .before .before .before .before .before .before .before .before .before .before .before .before .before .before .before .before .before .before .before .before .pre .1)
 
 returns : tie.Need-returns
 returns c = λ i ec es er G.

@@ -1,10 +1,8 @@
 -- `synthesis::general::synthesize_xyz_prime` meets its contract: it hands the degrees what they ask for. Assumes nothing.
 use mathlib.Core.Path.{refl, sym, subst, _∙_}
-use native.Mathlib.Nat.{le-refl}
 use borrow.Author.Needs.{needs}
 use denote.Ref.{now}
 use lib.Dec.{T}
-use Rattle.tables.specs.Degree.{N-MAX}
 use Rattle.sums.specs.Arithmetic.{rounded}
 use Rattle.sums.specs.Paths.{placed}
 use Rattle.synthesis.specs.Sum.{Lent, inputs, lent}
@@ -31,8 +29,8 @@ returns c =
     let e = z .args in
     let a : Lent = lent (e .cos-theta) (e .sin-theta) (e .sin-lambda) (e .cos-lambda) (e .ratio) (e .time-delta) (now (e .g)) (now (e .h)) (now (e .g-dot)) (now (e .h-dot)) in
     let h = z .pre .0 in
-    c .all-degrees .ensures (inputs rounded a) refl refl refl (given a _ _ (record { g = h .0; h = h .1; g-dot = h .2; h-dot = h .3 }) (s .schmidt-table .ensures) (m .sin-cos-m-lambda .ensures))
-    ∙ lane-total (inputs rounded a) (plain a (z .pre .1) (subst T (sym (z .good .0 .1)) tt) (subst T (sym (z .good .1 .0 .1)) tt)) N-MAX (le-refl N-MAX)
+    c .all-degrees .ensures (inputs rounded a) refl refl refl (given a _ _ _ h (s .schmidt-table .ensures) (m .sin-cos-m-lambda .ensures))
+    ∙ lane-total (inputs rounded a) (plain a (z .pre .1) (subst T (sym (z .good .1 .0 .1)) tt) (subst T (sym (z .good .1 .1 .0 .1)) tt)) (e .top) (h .1)
 
 pub synthesize-xyz-prime-spec : {M : Type 1} → statement M
 synthesize-xyz-prime-spec =

@@ -1,0 +1,2 @@
+-- Definitions: Igrf.
+pub mod Igrf

@@ -1,0 +1,17 @@
+-- `models::epochs::igrf_epoch` meets its contract. Assumes nothing.
+use borrow.Author.Needs.{needs}
+use mir.Syntax.{w32}
+use mir.ValLaws.{toZ-ofZ}
+use Rattle.models.proofs.epochs.igrf_epoch.Statement.{statement}
+use Rattle.models.proofs.epochs.igrf_epoch.Tie as tie
+
+day-from-requires : tie.Need-day-from-requires
+day-from-requires c κs = search needs
+
+returns : tie.Need-returns
+returns c =
+    let s = c .before in
+    (rw (toZ-ofZ w32 (s .args .year) (s .fits .year), toZ-ofZ w32 (s .args .day-of-year) (s .fits .day-of-year)) at (c .day-from .ensures))
+
+pub igrf-epoch-spec : {M : Type 1} → statement M
+igrf-epoch-spec = tie.close (tie.spec day-from-requires returns)
