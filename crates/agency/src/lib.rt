@@ -1,5 +1,7 @@
 // The agency's coefficient file, WMM.COF: a header with its epoch, a line for each degree and order,
 // then lines of nines. It is read whole into lists of its own before the lent ones are written.
+#![tactic(auto)]
+
 mod entries;
 mod file;
 

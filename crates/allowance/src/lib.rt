@@ -1,5 +1,7 @@
 // The entry Allowance: for the same input as Field, how far its X, Y and Z can lie from the exact
 // field. An upper bound of demand 3's allowance.
+#![tactic(auto)]
+
 ghost use Rattle.std.specs.Prelude.{◌≡◌, ℤ};
 ghost use Rattle.models.specs.declared.epochs.EpochOffset.{EpochOffset};
 ghost use Rattle.models.specs.Epochs.{epoch_offset};

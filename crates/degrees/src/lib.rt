@@ -1,4 +1,6 @@
 // Field with the place in degrees: the pairs are made here, so that no caller needs a sine.
+#![tactic(auto)]
+
 ghost use Rattle.std.specs.Prelude.{◌≡◌};
 ghost use Rattle.models.specs.Epochs.{epoch_offset};
 ghost use Rattle.field.specs.Field.{said};

@@ -1,5 +1,7 @@
 // The angle of a point in degrees: the arctangent of two numbers, by whole numbers. No call of a C
 // library.
+#![tactic(auto)]
+
 mod arc;
 
 ghost use Rattle.std.specs.Prelude.{◌≡◌, cond, ℕ, ◌-◌, ◌≤◌, T};

@@ -1,4 +1,6 @@
 // The entry Field: the geomagnetic field at a place and a day, from a lent coefficient set.
+#![tactic(auto)]
+
 ghost use Rattle.std.specs.Prelude.{◌≡◌};
 ghost use Rattle.models.specs.Epochs.{epoch_offset};
 ghost use Rattle.models.specs.Errors.{error_said};

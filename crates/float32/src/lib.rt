@@ -1,4 +1,6 @@
 // What the library does with single f32s: tests and bits. No call of a C library.
+#![tactic(auto)]
+
 ghost use Rattle.std.specs.Prelude.{◌≡◌, not};
 ghost use Rattle.std.specs.Float.Ieee.Scale.{finite};
 ghost use Rattle.exact.specs.Tests as tests;

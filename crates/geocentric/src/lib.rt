@@ -1,5 +1,7 @@
 // The geocentric step: from a height and the sine and cosine of a geodetic latitude to the radius and
 // the sine and cosine of the colatitude. Each operation is rounded once, in the order of the source.
+#![tactic(auto)]
+
 ghost use Rattle.std.specs.Prelude.{◌≡◌};
 ghost use Rattle.geocentric.specs.Geo.{wgs84_e2, geocentric_of, ratio_to};
 

@@ -1,5 +1,7 @@
 // The IGRF profile: X, Y and Z from 2000 to 2029, and how they change in a year: before 2025 between two
 // lent sets that are five years apart, from then on from the set of 2025 alone.
+#![tactic(auto)]
+
 ghost use Rattle.std.specs.Prelude.{◌≡◌, ◌++◌, ◌≤◌, T, cond, false, ℤ, pos, ◌+ℤ◌, length, drop, replicate};
 ghost use Rattle.refusals.specs.Paper.{answered};
 ghost use Rattle.std.specs.Int.Signed.{lt_z};

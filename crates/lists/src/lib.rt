@@ -1,4 +1,6 @@
 // The checks of the four lent lists: refusals 6, 23 and 7. And what a reader of a set answers.
+#![tactic(auto)]
+
 ghost use Rattle.std.specs.Prelude.{◌≡◌, cond, ◌<◌, ◌≤◌};
 ghost use Rattle.std.specs.Float.Ieee.{neg};
 ghost use Rattle.exact.specs.Tests.{all_between};

@@ -1,5 +1,7 @@
 // Which model a day belongs to: its epoch year, its offset in years, and the epoch's error
 // figures, the two built-in records or those of a lent list.
+#![tactic(auto)]
+
 mod calendar;
 mod epochs;
 mod errors;

@@ -1,4 +1,6 @@
 // The yearly rates: how X, Y, Z, declination, inclination, H and F change in a year.
+#![tactic(auto)]
+
 ghost use Rattle.std.specs.Prelude.{◌≡◌, false};
 ghost use Rattle.std.specs.Float.{binary32};
 ghost use Rattle.std.specs.Float.Ieee.{eq, of_bits};

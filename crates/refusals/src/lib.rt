@@ -1,5 +1,7 @@
 // Every refusal of the library, once. The paper's number and values of each case are `line` in
 // specs/Paper.antt, by which the contracts speak.
+#![tactic(auto)]
+
 ghost use Rattle.std.specs.Prelude.{◌≡◌};
 ghost use Rattle.refusals.specs.Paper.{line};
 

@@ -1,4 +1,6 @@
 // Reads case lines from standard input, and writes each back with its own answer.
+#![tactic(auto)]
+
 mod angles;
 mod answers;
 mod blocks;

@@ -1,4 +1,6 @@
 // The square root of an f32, correctly rounded. No call of a C library.
+#![tactic(auto)]
+
 mod root;
 
 ghost use Rattle.std.specs.Prelude.{◌≡◌};

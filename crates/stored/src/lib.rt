@@ -1,5 +1,7 @@
 // A stored set: a coefficient set as bytes, in five tagged fields. All is checked before a lent list or
 // a lent byte is written.
+#![tactic(auto)]
+
 mod check;
 mod layout;
 mod put;

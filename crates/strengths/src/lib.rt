@@ -1,5 +1,7 @@
 // The field record, and the strengths over it. Each takes the record by value, and refuses one with
 // a component that is no usable number.
+#![tactic(auto)]
+
 ghost use Rattle.std.specs.Prelude.{◌≡◌};
 ghost use Rattle.std.specs.Float.{binary32};
 ghost use Rattle.std.specs.Float.Ieee.{div};

@@ -1,4 +1,6 @@
 // The entry Sum: X', Y and Z' of the model at a geocentric place and a date, in the crate's sign.
+#![tactic(auto)]
+
 ghost use Rattle.std.specs.Prelude.{◌≡◌, cond};
 ghost use Rattle.lists.specs.Lists.{lengths_verdict, lists_verdict};
 ghost use Rattle.synthesis.specs.Sum.{SumClose, lent, said, sum_says, uncapped_says};

@@ -1,6 +1,8 @@
 // Schmidt's factors, a table at place n(n+1)/2 + m, and the recurrence factors K, each by a division.
 // A caller takes the table once and reads it in its loop: each use of a `const` array writes all its
 // elements anew.
+#![tactic(auto)]
+
 ghost use Rattle.std.specs.Prelude.{◌≡◌};
 ghost use Rattle.tables.specs.Degree.{degree_of};
 ghost use Rattle.tables.specs.Tables.{schmidt_table};

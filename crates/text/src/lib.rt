@@ -1,4 +1,6 @@
 // Lines, words and decimal numbers of lent bytes. Every function answers for all bytes.
+#![tactic(auto)]
+
 mod decimals;
 mod nearest;
 mod spans;

@@ -1,4 +1,6 @@
 // The sine and the cosine of an angle in degrees, by whole numbers. No call of a C library.
+#![tactic(auto)]
+
 ghost use Rattle.std.specs.Prelude.{◌≡◌, cond, leb, ltb, ℕ, ◌<◌, ◌≤◌, ◌^◌, ◌-◌, ◌*◌};
 ghost use Rattle.std.specs.Float.Ieee.{neg};
 ghost use Rattle.trig.specs.Fixed.{step_of, sine_part, cosine_part, square_of, sine_long, sine_bits, cosine_bits, small_pair, lift_by, near_pair, left_of, far_pair, pair_of, said, sine_says};

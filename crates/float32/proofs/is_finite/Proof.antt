@@ -4,17 +4,17 @@ use Rattle.float32.proofs.Checks.{above_least, not_above}
 use Rattle.float32.proofs.is_finite.Statement.{statement}
 use Rattle.float32.proofs.is_finite.Tie as tie
 
-float-from-bits-inf : tie.Need-float-from-bits-inf
+float_from_bits-inf : tie.Need-float_from_bits-inf
 unfolding nan_bits
-float-from-bits-inf c = tt
+float_from_bits-inf c = tt
 
-returns : tie.Need-returns
+returns : tie.Need-returns-then-inf-x
 unfolding of_bits neg
-returns c = above_least c.before.args.x c.if1.true
+returns c = above_least c.before.args.x c.if-inf-x.true
 
-returns-2 : tie.Need-returns-2
+returns-2 : tie.Need-returns-else-inf-x
 unfolding of_bits neg
-returns-2 c = not_above c.before.args.x c.if1.false
+returns-2 c = not_above c.before.args.x c.if-inf-x.false
 
 pub is_finite_spec : {M : Type 1} → statement M
-is_finite_spec = tie.close (tie.spec float-from-bits-inf returns returns-2)
+is_finite_spec = tie.close (tie.spec float_from_bits-inf returns returns-2)
