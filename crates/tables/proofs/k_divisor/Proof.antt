@@ -4,13 +4,13 @@ use Rattle.tables.specs.Division.{k_divisor}
 use Rattle.tables.proofs.k_divisor.Statement.{statement}
 use Rattle.tables.proofs.k_divisor.Tie as tie
 
-returns : tie.Need-returns
+returns : tie.Need-returns-then-square
 unfolding k_divisor
-returns c = rw c.if1.true refl
+returns c = rw c.if-square.true refl
 
-returns-2 : tie.Need-returns-2
+returns-2 : tie.Need-returns-else-square
 unfolding k_divisor
-returns-2 c = rw c.if1.false refl
+returns-2 c = rw c.if-square.false refl
 
 pub k_divisor_spec : {M : Type 1} → statement M
 k_divisor_spec = tie.close (tie.spec returns returns-2)

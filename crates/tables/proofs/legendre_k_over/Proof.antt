@@ -5,12 +5,12 @@ use Rattle.tables.specs.Division.{k_over}
 use Rattle.tables.proofs.legendre_k_over.Statement.{statement}
 use Rattle.tables.proofs.legendre_k_over.Tie as tie
 
-not-below-zero-requires : tie.Need-not-below-zero-requires
-not-below-zero-requires c κs = search rules
+not_below_zero-requires : tie.Need-not_below_zero-requires
+not_below_zero-requires c κs = search rules
 
 returns : tie.Need-returns
 unfolding k_over
-returns c = rw c.not-below-zero.ensures refl
+returns c = rw c.not_below_zero.ensures refl
 
 pub legendre_k_over_spec : {M : Type 1} → statement M
-legendre_k_over_spec = tie.close (tie.spec not-below-zero-requires returns)
+legendre_k_over_spec = tie.close (tie.spec not_below_zero-requires returns)
