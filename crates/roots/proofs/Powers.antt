@@ -1,6 +1,6 @@
 -- Products with powers of two. Assumes nothing.
 use mathlib.Core.Path.{◌≡◌, sym, ap, ◌∙◌}
-use Prim.Native.Nat.{ℕ, suc, ◌+◌, ◌-◌, ◌*◌, ◌/◌, ◌^◌, ◌≤◌, ◌<◌}
+use Prim.Native.Nat.{ℕ, zero, suc, ◌+◌, ◌-◌, ◌*◌, ◌/◌, ◌^◌, ◌≤◌, ◌<◌}
 use native.Mathlib.Nat.{mul-le-mul_right, mul-le-mul_left, add-mul, mul_assoc, pow-succ', div-eq_of_eq-mul_left}
 use native.Mathlib.Omega.{arith}
 use lib.Pow.{pow_mono, pow_pos, pow-add}
@@ -21,6 +21,7 @@ still_high t m f p h e = go
     go = omega (arith, low)
 
 pub one_up : (m f : ℕ) → 0 < f → m * 2 * 2 ^ (f - 1) ≡ m * 2 ^ f
+one_up m zero p = elim p [ ]
 one_up m (suc g) p =
     let e : suc g - 1 ≡ g = omega arith in
     rw e (mul_assoc m 2 (2 ^ g) ∙ ap (λ (x : ℕ). m * x) (sym (pow-succ' 2 g)))

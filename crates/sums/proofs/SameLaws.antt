@@ -116,6 +116,10 @@ mul_same (zeros s t) (zeros u v) = nulls _ _ 0 1 refl (zero-lt-suc 0)
 -- zero times a finite number is a zero
 pub null_times : (s : Bool) (x y : Float) → T (finite x) → T (finite y) → Same (mul binary32 (null s) x) (mul binary32 (null s) y)
 unfolding mul
+null_times s nan y f g = elim f [ ]
+null_times s (inf _) y f g = elim f [ ]
+null_times s (fin t m e) nan f g = elim g [ ]
+null_times s (fin t m e) (inf _) f g = elim g [ ]
 null_times s (fin t m e) (fin u n d) f g =
     by_same (round_null _ _ _ (gone 1 (m * up e)) (mul-pos (zero-lt-suc 0) (down_pos e))) (round_null _ _ _ (gone 1 (n * up d)) (mul-pos (zero-lt-suc 0) (down_pos d))) (zeros _ _)
 

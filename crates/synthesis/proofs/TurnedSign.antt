@@ -1,7 +1,7 @@
 -- The sign of a product turns with the sign of either factor, to the bit. So a term that is stored with its sign turned and taken away is the term added.
 use mathlib.Core.Path.{◌≡◌, refl, sym, ap, ◌∙◌}
 use Prim.Native.Nat.{ℕ, ◌*◌}
-use mathlib.Core.Bool.{Bool, true, false, not, cond, not_not}
+use mathlib.Core.Bool.{Bool, true, false, not, cond, not-not}
 use lib.Dec.{eqb}
 use lib.Ieee.{Float, nan, inf, fin, binary32, up, down, unlike, round, add, sub, mul, neg}
 use Rattle.exact.proofs.Range.{round_neg}
@@ -10,8 +10,8 @@ use Rattle.exact.proofs.Range.{round_neg}
 neg_neg : (x : Float) → neg (neg x) ≡ x
 unfolding neg
 neg_neg nan = refl
-neg_neg (inf s) = ap inf (not_not s)
-neg_neg (fin s m e) = ap (λ (t : Bool). fin t m e) (not_not s)
+neg_neg (inf s) = ap inf (not-not s)
+neg_neg (fin s m e) = ap (λ (t : Bool). fin t m e) (not-not s)
 
 turned_round : (s : Bool) {t : Bool} (a c : ℕ) → not s ≡ t → neg (round binary32 s a c) ≡ round binary32 t a c
 turned_round s a c e = go s ∙ ap (λ (r : Bool). round binary32 r a c) e

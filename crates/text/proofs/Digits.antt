@@ -1,6 +1,6 @@
 -- From a scan to the number of a word: one law for each way to an answer. Assumes nothing.
 use mathlib.Core.Path.{◌≡◌, refl, sym, ap, subst, ◌∙◌}
-use mathlib.Core.Bool.{Bool, true, false, not, ◌&&◌, ◌||◌, cond, true≢false, and_false}
+use mathlib.Core.Bool.{Bool, true, false, not, ◌&&◌, ◌||◌, cond, true≢false, and-false}
 use mathlib.Core.List.{List, [], ◌∷◌, ◌++◌, append-nil}
 use mathlib.Core.Logic.{inl, inr, ⊎_elim}
 use Prim.Native.Nat.{ℕ, ◌+◌, ◌-◌, ◌*◌, ◌≤◌, ◌<◌}
@@ -21,11 +21,11 @@ module _ (m : Bool) (u : List ℕ) where
 
   no_places : pointed u ≡ true → numeral (beyond u) ≡ false → malformed ≡ plain_of m u
   unfolding plain_of plain
-  no_places e f = rw (e, f, and_false (numeral (before u)))
+  no_places e f = rw (e, f, and-false (numeral (before u)))
 
   too_long : 9 < length (before u) + length (beyond u) → malformed ≡ plain_of m u
   unfolding plain_of plain
-  too_long h = rw (lt-leb (length (before u) + length (beyond u)) 9 h, and_false (numeral (before u) && (not (pointed u) || numeral (beyond u))))
+  too_long h = rw (lt-leb (length (before u) + length (beyond u)) 9 h, and-false (numeral (before u) && (not (pointed u) || numeral (beyond u))))
 
   accepted : numeral (before u) ≡ true → (not (pointed u) || numeral (beyond u)) ≡ true → length (before u) + length (beyond u) ≤ 9
       → read (record { minus = m; digits = value_of 0 (before u ++ beyond u); places = length (beyond u) }) ≡ plain_of m u
@@ -80,7 +80,7 @@ before_other (b ∷ a) c t d e = let p = and_parts (digit b) (digits a) d in rw 
 digits_other : (a : List ℕ) (c : ℕ) (t : List ℕ) → digit c ≡ false → digits (a ++ c ∷ t) ≡ false
 unfolding digits
 digits_other [] c t e = rw e
-digits_other (b ∷ a) c t e = rw (digits_other a c t e, and_false (digit b))
+digits_other (b ∷ a) c t e = rw (digits_other a c t e, and-false (digit b))
 
 no_digits : (w : List ℕ) → digits w ≡ false → numeral w ≡ false
 no_digits [] e = refl

@@ -17,6 +17,7 @@ use Rattle.text.specs.Scan.{State, scan, Ran}
 -- ---- the number stays small
 -- another digit takes the room of one
 pub smaller : (v x m N : ℕ) → (v + 1) * 10 ^ m ≤ N → 0 < m → x ≤ 9 → (v * 10 + x + 1) * 10 ^ (m - 1) ≤ N
+smaller v x zero N h p q = elim p [ ]
 smaller v x (suc m) N h p q =
     let e : suc m - 1 ≡ m = omega arith in
     let a : (v * 10 + x + 1) * 10 ^ m ≤ (v + 1) * 10 * 10 ^ m = mul-le-mul_right (10 ^ m) (omega arith) in
@@ -36,6 +37,7 @@ stay (suc m) v c w e = rw e
 
 go_on : (m v c : ℕ) (w : List ℕ) → digit c ≡ true → 0 < m → scan m v (c ∷ w) ≡ scan (m - 1) (v * 10 + (c - 48)) w
 unfolding scan
+go_on zero v c w e h = elim h [ ]
 go_on (suc m) v c w e h = let i : suc m - 1 ≡ m = omega arith in rw (e, i)
 
 out : (m v : ℕ) → scan m v [] ≡ record { left = m; value = v; ahead = [] }

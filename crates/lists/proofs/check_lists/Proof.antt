@@ -5,44 +5,33 @@ use borrow.Author.Rules.{rules}
 use Rattle.lists.proofs.check_lists.Statement.{statement}
 use Rattle.lists.proofs.check_lists.Tie as tie
 
-check-lengths-requires : tie.Need-check-lengths-requires
-check-lengths-requires c κs = search rules
+check_lengths-requires : tie.Need-check_lengths-requires
+check_lengths-requires c κs = search rules
 
-enum-known-k : tie.Need-enum-known-k
-enum-known-k c = search rules
+enum_known-k : tie.Need-enum_known-k
+enum_known-k c = search rules
 
-returns : tie.Need-returns
-returns c = (bad_lengths _ _ _ _ _ (same c.before.before.before.check_lengths.ensures.0 c.before.k.given.1), (refl, refl, refl, refl))
+returns : tie.Need-returns-in-Refused
+returns c = (bad_lengths _ _ _ _ _ (same c.check_lengths.ensures.0 c.in-Refused.is), (refl, refl, refl, refl))
 
-enum_told : tie.Need-enum-told
+enum_told : tie.Need-enum_told-1
 enum_told c = search rules
 
-lists-within-requires : tie.Need-lists-within-requires
-lists-within-requires c κs = search rules
+lists_within-requires : tie.Need-lists_within-requires
+lists_within-requires c κs = search rules
 
-returns-2 : tie.Need-returns-2
+returns-2 : tie.Need-returns-then-lists_within
 returns-2 c =
-    let w = c.before in
-    let o = w.before in
-    (lists_pass _ _ _ _ (same o.before.before.check_lengths.ensures.0 o.enum_told.given.1) (same w.lists-within.ensures c.if1.true), (refl, refl, refl, refl))
+    (lists_pass _ _ _ _ (same c.check_lengths.ensures.0 c.in_default.is) (same c.lists_within.ensures c.if-lists_within.true), (refl, refl, refl, refl))
 
-search-caps-requires : tie.Need-search-caps-requires
-search-caps-requires c κs = search rules
+search_caps-requires : tie.Need-search_caps-requires
+search_caps-requires c κs = search rules
 
-returns-3 : tie.Need-returns-3
+returns-3 : tie.Need-returns
 returns-3 c =
-    let o = c.before.before.before in
-    (caps_decide _ _ _ _ (same o.before.before.check_lengths.ensures.0 o.enum_told.given.1) _ c.search-caps.ensures, (refl, refl, refl, refl))
+    (caps_decide _ _ _ _ (same c.check_lengths.ensures.0 c.in_default.is) _ c.search_caps.ensures, (refl, refl, refl, refl))
 
 pub check_lists_spec : {M : Type 1} → statement M
 check_lists_spec =
     tie.close
-    (tie.spec
-    check-lengths-requires
-    enum-known-k
-    returns
-    enum_told
-    lists-within-requires
-    returns-2
-    search-caps-requires
-    returns-3)
+    (tie.spec check_lengths-requires enum_known-k returns enum_told lists_within-requires returns-2 search_caps-requires returns-3)

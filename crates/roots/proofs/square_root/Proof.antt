@@ -6,19 +6,18 @@ use Rattle.roots.proofs.Answer.{root_said, refusal_said}
 use Rattle.roots.proofs.square_root.Statement.{statement}
 use Rattle.roots.proofs.square_root.Tie as tie
 
-has-root-requires : tie.Need-has-root-requires
-has-root-requires c κs = search rules
+has_root-requires : tie.Need-has_root-requires
+has_root-requires c κs = search rules
 
-rounded-root-requires : tie.Need-rounded-root-requires
-rounded-root-requires c κs = subst T (sym (sym c.before.has-root.ensures ∙ c.if1.true)) tt
+rounded_root-requires : tie.Need-rounded_root-requires
+rounded_root-requires c κs = subst T (sym (sym c.has_root.ensures ∙ c.if-has_root.true)) tt
 
-returns : tie.Need-returns
+returns : tie.Need-returns-then-has_root
 returns c =
-    let i = c.before in
-    root_said i.before.before.args.x c.rounded-root.result (sym i.before.has-root.ensures ∙ i.if1.true) c.rounded-root.ensures
+    root_said c.args.x c.rounded_root.result (sym c.has_root.ensures ∙ c.if-has_root.true) c.rounded_root.ensures
 
-returns-2 : tie.Need-returns-2
-returns-2 c = refusal_said c.before.before.args.x (sym c.before.has-root.ensures ∙ c.if1.false)
+returns-2 : tie.Need-returns-else-has_root
+returns-2 c = refusal_said c.args.x (sym c.has_root.ensures ∙ c.if-has_root.false)
 
 pub square_root_spec : {M : Type 1} → statement M
-square_root_spec = tie.close (tie.spec has-root-requires rounded-root-requires returns returns-2)
+square_root_spec = tie.close (tie.spec has_root-requires rounded_root-requires returns returns-2)

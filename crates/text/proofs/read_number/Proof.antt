@@ -6,29 +6,27 @@ use borrow.Author.Rules.{rules}
 use Rattle.text.proofs.read_number.Statement.{statement}
 use Rattle.text.proofs.read_number.Tie as tie
 
-read-decimal-requires : tie.Need-read-decimal-requires
-read-decimal-requires c κs = search rules
+read_decimal-requires : tie.Need-read_decimal-requires
+read_decimal-requires c κs = search rules
 
-enum-known-d : tie.Need-enum-known-d
-enum-known-d c = search rules
+enum_known-d : tie.Need-enum_known-d
+enum_known-d c = search rules
 
 nearest-requires : tie.Need-nearest-requires
 nearest-requires c κs =
-    let r = c.before.before.before in
-    (bounds _ _ (was _ _ r.read_decimal.ensures.0 _ c.before.d.given.1)).1
+    (bounds _ _ (was _ _ c.read_decimal.ensures.0 _ c.in-Decimal.is)).1
 
-enum_told : tie.Need-enum-told
+enum_told : tie.Need-enum_told-1
 enum_told c = search rules
 
-returns : tie.Need-returns
+returns : tie.Need-returns-in-Decimal
 returns c =
-    let r = c.before.before.before.before in
-    (number_read _ _ r.read_decimal.ensures.0 _ c.before.before.d.given.1 _ c.nearest.ensures, refl)
+    (number_read _ _ c.read_decimal.ensures.0 _ c.in-Decimal.is _ c.nearest.ensures, refl)
 
-returns-2 : tie.Need-returns-2
-returns-2 c = (no_number _ _ c.before.before.read_decimal.ensures.0 c.enum_told.given.1, refl)
+returns-2 : tie.Need-returns-in-Malformed
+returns-2 c = (no_number _ _ c.read_decimal.ensures.0 c.in-Malformed.is, refl)
 
 pub read_number_spec : {M : Type 1} → statement M
 read_number_spec =
     tie.close
-    (tie.spec read-decimal-requires enum-known-d nearest-requires enum_told returns returns-2)
+    (tie.spec read_decimal-requires enum_known-d nearest-requires enum_told returns returns-2)

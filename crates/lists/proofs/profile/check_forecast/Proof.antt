@@ -7,77 +7,47 @@ use Rattle.lists.proofs.OfProfile.{forecast_refused, g_moves, h_moves, forecast_
 use Rattle.lists.proofs.profile.check_forecast.Statement.{statement}
 use Rattle.lists.proofs.profile.check_forecast.Tie as tie
 
-check-lengths-requires : tie.Need-check-lengths-requires
-check-lengths-requires c κs = search rules
+check_lengths-requires : tie.Need-check_lengths-requires
+check_lengths-requires c κs = search rules
 
-enum-known-k : tie.Need-enum-known-k
-enum-known-k c = search rules
+enum_known-k : tie.Need-enum_known-k
+enum_known-k c = search rules
 
-returns : tie.Need-returns
-returns c = (forecast_refused _ _ _ _ _ (same c.before.before.before.check_lengths.ensures.0 c.before.k.given.1), (refl, refl, refl, refl))
+returns : tie.Need-returns-in-Refused
+returns c = (forecast_refused _ _ _ _ _ (same c.check_lengths.ensures.0 c.in-Refused.is), (refl, refl, refl, refl))
 
-enum_told : tie.Need-enum-told
+enum_told : tie.Need-enum_told-1
 enum_told c = search rules
 
-is-still-requires : tie.Need-is-still-requires
-is-still-requires c κs = search rules
+is_still-requires : tie.Need-is_still-requires
+is_still-requires c κs = search rules
 
-returns-2 : tie.Need-returns-2
+returns-2 : tie.Need-returns-then-not-is_still
 returns-2 c =
-    let a = c.before in
-    let o = a.before in
-    (g_moves _ _ _ _ (same o.before.before.check_lengths.ensures.0 o.enum_told.given.1) (sym a.is-still.ensures ∙ not-true _ c.if1.true), (refl, refl, refl, refl))
+    (g_moves _ _ _ _ (same c.check_lengths.ensures.0 c.in_default.is) (sym c.is_still.ensures ∙ not-true _ c.if-not-is_still.true-raw), (refl, refl, refl, refl))
 
-is-still-requires-2 : tie.Need-is-still-requires-2
-is-still-requires-2 c κs = search rules
+is_still-requires-2 : tie.Need-is_still-requires-2
+is_still-requires-2 c κs = search rules
 
-returns-3 : tie.Need-returns-3
+returns-3 : tie.Need-returns-then-not-is_still-2
 returns-3 c =
-    let b = c.before in
-    let i = b.before in
-    let a = i.before in
-    let o = a.before in
-    (h_moves _ _ _ _ (same o.before.before.check_lengths.ensures.0 o.enum_told.given.1) (sym a.is-still.ensures ∙ not-false _ i.if1.false) (sym b.is-still2.ensures ∙ not-true _ c.if2.true), (refl, refl, refl, refl))
+    (h_moves _ _ _ _ (same c.check_lengths.ensures.0 c.in_default.is) (sym c.is_still.ensures ∙ not-false _ c.if-not-is_still.false-raw) (sym c.is_still-2.ensures ∙ not-true _ c.if-not-is_still-2.true-raw), (refl, refl, refl, refl))
 
-lists-within-requires : tie.Need-lists-within-requires
-lists-within-requires c κs = search rules
+lists_within-requires : tie.Need-lists_within-requires
+lists_within-requires c κs = search rules
 
-returns-4 : tie.Need-returns-4
+returns-4 : tie.Need-returns-then-lists_within
 returns-4 c =
-    let w = c.before in
-    let j = w.before in
-    let b = j.before in
-    let i = b.before in
-    let a = i.before in
-    let o = a.before in
-    (forecast_pass _ _ _ _ (same o.before.before.check_lengths.ensures.0 o.enum_told.given.1) (sym a.is-still.ensures ∙ not-false _ i.if1.false) (sym b.is-still2.ensures ∙ not-false _ j.if2.false) (same w.lists-within.ensures c.if3.true), (refl, refl, refl, refl))
+    (forecast_pass _ _ _ _ (same c.check_lengths.ensures.0 c.in_default.is) (sym c.is_still.ensures ∙ not-false _ c.if-not-is_still.false-raw) (sym c.is_still-2.ensures ∙ not-false _ c.if-not-is_still-2.false-raw) (same c.lists_within.ensures c.if-lists_within.true), (refl, refl, refl, refl))
 
-search-caps-requires : tie.Need-search-caps-requires
-search-caps-requires c κs = search rules
+search_caps-requires : tie.Need-search_caps-requires
+search_caps-requires c κs = search rules
 
-returns-5 : tie.Need-returns-5
+returns-5 : tie.Need-returns
 returns-5 c =
-    let w = c.before.before in
-    let j = w.before in
-    let b = j.before in
-    let i = b.before in
-    let a = i.before in
-    let o = a.before in
-    (forecast_decide _ _ _ _ (same o.before.before.check_lengths.ensures.0 o.enum_told.given.1) (sym a.is-still.ensures ∙ not-false _ i.if1.false) (sym b.is-still2.ensures ∙ not-false _ j.if2.false) _ c.search-caps.ensures, (refl, refl, refl, refl))
+    (forecast_decide _ _ _ _ (same c.check_lengths.ensures.0 c.in_default.is) (sym c.is_still.ensures ∙ not-false _ c.if-not-is_still.false-raw) (sym c.is_still-2.ensures ∙ not-false _ c.if-not-is_still-2.false-raw) _ c.search_caps.ensures, (refl, refl, refl, refl))
 
 pub check_forecast_spec : {M : Type 1} → statement M
 check_forecast_spec =
     tie.close
-    (tie.spec
-    check-lengths-requires
-    enum-known-k
-    returns
-    enum_told
-    is-still-requires
-    returns-2
-    is-still-requires-2
-    returns-3
-    lists-within-requires
-    returns-4
-    search-caps-requires
-    returns-5)
+    (tie.spec check_lengths-requires enum_known-k returns enum_told is_still-requires returns-2 is_still-requires-2 returns-3 lists_within-requires returns-4 search_caps-requires returns-5)

@@ -9,57 +9,44 @@ use Rattle.lists.proofs.OfProfile.{not_zero_here, zero_here}
 use Rattle.lists.proofs.profile.is_still.Statement.{statement}
 use Rattle.lists.proofs.profile.is_still.Tie as tie
 
-abbrev invariant-loop : tie.invariant-loop
+abbrev invariant-loop : tie.invariant-loop-i
 invariant-loop s i₀ i =
     still s ≡ all_zero (drop i s)
 
-abbrev decreases-loop : tie.decreases-loop
+abbrev decreases-loop : tie.decreases-loop-i
 decreases-loop s i₀ i =
     length s - i
 
-loop-holds : tie.Need-loop-init invariant-loop decreases-loop
+loop-holds : tie.Need-loop-i-init invariant-loop decreases-loop
 loop-holds c = refl
 
-mul-if1 : tie.Need-overflow-mul-if1 invariant-loop decreases-loop
+mul-if1 : tie.Need-offset_bounds-s-i invariant-loop decreases-loop
 mul-if1 c = search rules
 
-shared-slice-read-if1 : tie.Need-shared-slice-read-if1 invariant-loop decreases-loop
-shared-slice-read-if1 c = search rules
+shared_slice_read-if1 : tie.Need-bounds-s-i invariant-loop decreases-loop
+shared_slice_read-if1 c = search rules
 
-returns : tie.Need-returns invariant-loop decreases-loop
+returns : tie.Need-returns-then-not-s-i invariant-loop decreases-loop
 returns c =
-    let l = c.before.before.before in
-    sym (not_zero_here l.before.args.s.now l.loop.i _ (search rules) l.loop.invariant (not-true _ c.if1.true))
+    sym (not_zero_here c.args.s.now c.loop-i.i _ (search rules) c.loop-i.invariant (not-true _ c.if-not-s-i.true-raw))
 
-add-i : tie.Need-overflow-add-i invariant-loop decreases-loop
+add-i : tie.Need-overflow_add-i invariant-loop decreases-loop
 add-i c = search rules
 
-loop-less : tie.Need-loop-smaller invariant-loop decreases-loop
+loop-less : tie.Need-loop-i-smaller invariant-loop decreases-loop
 loop-less c = search rules
 
-loop-again : tie.Need-loop-preserved invariant-loop decreases-loop
+loop-again : tie.Need-loop-i-preserved invariant-loop decreases-loop
 loop-again c =
-    let l = c.before.before.before in
-    zero_here l.before.args.s.now l.loop.i _ (search rules) l.loop.invariant (not-false _ c.if1.false)
+    zero_here c.args.s.now c.loop-i.i _ (search rules) c.loop-i.invariant (not-false _ c.if-not-s-i.false-raw)
 
-returns-2 : tie.Need-returns-2 invariant-loop decreases-loop
+returns-2 : tie.Need-returns invariant-loop decreases-loop
 unfolding all_zero
 returns-2 c =
-    let l = c.before in
-    let a = l.before.args in
-    sym (l.loop.invariant ∙ rw (drop_of_length-le a.s.now {i = l.loop.i} (search rules)))
+    let a = c.args in
+    sym (c.loop-i.invariant ∙ rw (drop_of_length-le a.s.now {i = c.loop-i.i} (search rules)))
 
 pub is_still_spec : {M : Type 1} → statement M
 is_still_spec =
     tie.close
-    (tie.spec
-    invariant-loop
-    decreases-loop
-    loop-holds
-    mul-if1
-    shared-slice-read-if1
-    returns
-    add-i
-    loop-less
-    loop-again
-    returns-2)
+    (tie.spec invariant-loop decreases-loop loop-holds mul-if1 shared_slice_read-if1 returns add-i loop-less loop-again returns-2)

@@ -14,17 +14,17 @@ in_double : (n : ℕ) → n < 2 ^ 48 → T (in_float binary64 (pos n))
 unfolding in_float
 in_double n h = le→leb n (2 ^ 53) (omega arith)
 
-int-to-float-v : tie.Need-int-to-float-v
-int-to-float-v c = in_double c.before.args.x c.before.requires
+int_to_float-v : tie.Need-int_to_float-v
+int_to_float-v c = in_double c.args.x c.requires
 
-float-to-bits-result : tie.Need-float-to-bits-result
-float-to-bits-result c = same_no_nan _ c.if1.true
+float_to_bits-result : tie.Need-float_to_bits-result
+float_to_bits-result c = same_no_nan _ c.if-t.true
 
-returns : tie.Need-returns
+returns : tie.Need-returns-then-t
 returns c = search rules
 
-returns-2 : tie.Need-returns-2
+returns-2 : tie.Need-returns-else-t
 returns-2 c = search rules
 
 pub guess_spec : {M : Type 1} → statement M
-guess_spec = tie.close (tie.spec int-to-float-v float-to-bits-result returns returns-2)
+guess_spec = tie.close (tie.spec int_to_float-v float_to_bits-result returns returns-2)

@@ -10,48 +10,46 @@ use Rattle.roots.proofs.root.rounded_root.Tie as tie
 
 -- what owning an `f32` tells: the format holds it
 held : (c : tie.Start) → T (fits binary32 c.args.x)
-held c = subst T (sym c.well-formed.0.1) tt
+held c = subst T (sym c.well_formed.0.1) tt
 
-float-to-bits-b : tie.Need-float-to-bits-b
-float-to-bits-b c = is_no_nan c.args.x c.requires
+float_to_bits-b : tie.Need-float_to_bits-b
+float_to_bits-b c = is_no_nan c.args.x c.requires
 
-returns : tie.Need-returns
-returns c = at_zero c.before.args.x (held c.before) c.before.requires c.if1.true
+returns : tie.Need-returns-then-b-eq0
+returns c = at_zero c.args.x (held c.before) c.requires c.if-b-eq0.true
 
-returns-2 : tie.Need-returns-2
-returns-2 c = at_top c.before.before.args.x (held c.before.before) c.before.before.requires c.if2.true
+returns-2 : tie.Need-returns-then-b-ge2139095040
+returns-2 c = at_top c.args.x (held c.before.before) c.requires c.if-b-ge2139095040.true
 
-lifted-requires : tie.Need-lifted-requires
+lifted-requires : tie.Need-lifted-s-requires
 lifted-requires c κs = search rules
 
-root-bits-requires : tie.Need-root-bits-requires
-root-bits-requires c κs = search rules
+root_bits-requires : tie.Need-root_bits-requires
+root_bits-requires c κs = search rules
 
-float-from-bits-result : tie.Need-float-from-bits-result
-float-from-bits-result c = packed_no_nan _ _ c.root_bits.result c.before.lifted.ensures.to c.root_bits.ensures
+float_from_bits-result : tie.Need-float_from_bits-result
+float_from_bits-result c = packed_no_nan _ _ c.root_bits.result c.lifted-s.ensures.to c.root_bits.ensures
 
-returns-3 : tie.Need-returns-3
+returns-3 : tie.Need-returns-then-e-eq0
 returns-3 c =
-    let s = c.before.before.before.before.before in
-    at_small s.args.x (held s) _ _ c.root_bits.result c.before.before.if3.true c.before.before.before.before.if1.false c.before.lifted.ensures c.root_bits.ensures
+    at_small c.args.x (held c.before.before.before.before.before) _ _ c.root_bits.result c.if-e-eq0.true c.if-b-eq0.false c.lifted-s.ensures c.root_bits.ensures
 
-add-root-bits : tie.Need-overflow-add-root-bits
-add-root-bits c = search rules
+add-root_bits : tie.Need-overflow_add-t
+add-root_bits c = search rules
 
-add-root-bits-2 : tie.Need-overflow-add-root-bits-2
-add-root-bits-2 c = search rules
+add-root_bits-2 : tie.Need-overflow_add-e
+add-root_bits-2 c = search rules
 
-root-bits-requires-2 : tie.Need-root-bits-requires-2
-root-bits-requires-2 c κs = search rules
+root_bits-requires-2 : tie.Need-root_bits-requires-2
+root_bits-requires-2 c κs = search rules
 
-float-from-bits-result-2 : tie.Need-float-from-bits-result-2
-float-from-bits-result-2 c = packed_no_nan _ _ c.root-bits2.result (omega arith) c.root-bits2.ensures
+float_from_bits-result-2 : tie.Need-float_from_bits-result-2
+float_from_bits-result-2 c = packed_no_nan _ _ c.root_bits-2.result (omega arith) c.root_bits-2.ensures
 
-returns-4 : tie.Need-returns-4
+returns-4 : tie.Need-returns
 returns-4 c =
-    let s = c.before.before.before.before in
-    at_normal s.args.x (held s) c.root-bits2.result c.before.if3.false c.before.before.if2.false c.root-bits2.ensures
+    at_normal c.args.x (held c.before.before.before.before) c.root_bits-2.result c.if-e-eq0.false c.if-b-ge2139095040.false c.root_bits-2.ensures
 
 pub rounded_root_spec : {M : Type 1} → statement M
 rounded_root_spec =
-    tie.close (tie.spec float-to-bits-b returns returns-2 lifted-requires root-bits-requires float-from-bits-result returns-3 add-root-bits add-root-bits-2 root-bits-requires-2 float-from-bits-result-2 returns-4)
+    tie.close (tie.spec float_to_bits-b returns returns-2 lifted-requires root_bits-requires float_from_bits-result returns-3 add-root_bits add-root_bits-2 root_bits-requires-2 float_from_bits-result-2 returns-4)

@@ -4,17 +4,17 @@ use borrow.Author.Rules.{rules}
 use Rattle.text.proofs.decimals.sign.Statement.{statement}
 use Rattle.text.proofs.decimals.sign.Tie as tie
 
-returns : tie.Need-returns
-returns c = no_byte _ c.if1.true
+returns : tie.Need-returns-then-s-eq0
+returns c = no_byte _ c.if-s-eq0.true
 
-shared-slice-read-if2 : tie.Need-shared-slice-read-if2
-shared-slice-read-if2 c = search rules
+shared_slice_read-if2 : tie.Need-bounds-s-0
+shared_slice_read-if2 c = search rules
 
-returns-2 : tie.Need-returns-2
-returns-2 c = minus_first _ (search rules) c.if2.true
+returns-2 : tie.Need-returns-then-s-eq-MINUS
+returns-2 c = minus_first _ (search rules) c.if-s-eq-MINUS.true
 
-returns-3 : tie.Need-returns-3
-returns-3 c = no_minus _ (search rules) c.if2.false
+returns-3 : tie.Need-returns
+returns-3 c = no_minus _ (search rules) c.if-s-eq-MINUS.false
 
 pub sign_spec : {M : Type 1} → statement M
-sign_spec = tie.close (tie.spec returns shared-slice-read-if2 returns-2 returns-3)
+sign_spec = tie.close (tie.spec returns shared_slice_read-if2 returns-2 returns-3)

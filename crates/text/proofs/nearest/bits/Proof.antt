@@ -5,20 +5,20 @@ use borrow.Author.Rules.{rules}
 use Rattle.text.proofs.nearest.bits.Statement.{statement}
 use Rattle.text.proofs.nearest.bits.Tie as tie
 
-mul-result : tie.Need-overflow-mul-result
+mul-result : tie.Need-overflow_mul-result
 mul-result c = search rules
 
 divided-requires : tie.Need-divided-requires
 divided-requires c κs = search rules
 
-cast-result : tie.Need-overflow-cast-result
+cast-result : tie.Need-overflow_cast-result
 cast-result c =
-    let q = quotient c.before.args.num c.before.args.den c.before.requires.0 in
+    let q = quotient c.args.num c.args.den c.requires.0 in
     omega (arith, c.divided.ensures)
 
-add-result : tie.Need-overflow-add-result
+add-result : tie.Need-overflow_add-result
 add-result c =
-    let q = quotient c.before.args.num c.before.args.den c.before.requires.0 in
+    let q = quotient c.args.num c.args.den c.requires.0 in
     omega (arith, c.divided.ensures)
 
 returns : tie.Need-returns

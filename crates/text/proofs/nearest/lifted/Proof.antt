@@ -5,10 +5,10 @@ use Rattle.text.proofs.Rounded.{lift}
 use Rattle.text.proofs.nearest.lifted.Statement.{statement}
 use Rattle.text.proofs.nearest.lifted.Tie as tie
 
-cast-t4 : tie.Need-overflow-cast-t4
+cast-t4 : tie.Need-overflow_cast-result-2
 cast-t4 c = omega (arith, leading_le 32 c.args.n)
 
-shl-t5 : tie.Need-overflow-shl-t5
+shl-t5 : tie.Need-overflow_shl-result
 shl-t5 c = omega (arith, leading_le 32 c.args.n)
 
 returns : tie.Need-returns

@@ -5,36 +5,32 @@ use borrow.Author.Rules.{rules}
 use Rattle.text.proofs.nearest.whole.Statement.{statement}
 use Rattle.text.proofs.nearest.whole.Tie as tie
 
-ten-to-requires : tie.Need-ten-to-requires
-ten-to-requires c κs = search rules
+ten_to-requires : tie.Need-ten_to-ten-requires
+ten_to-requires c κs = search rules
 
-rem-if1 : tie.Need-nonzero-rem-if1
-rem-if1 c = let s = c.before.before in ten_pos s.args.d _ c.before.ten-to.ensures s.requires.0
+rem-if1 : tie.Need-nonzero_rem-d
+rem-if1 c = ten_pos c.args.d _ c.ten_to-ten.ensures c.requires.0
 
-returns : tie.Need-returns
-returns c = let s = c.before.before.before in left_over s.args.d _ c.before.before.ten-to.ensures s.requires.0 (λ z. omega arith)
+returns : tie.Need-returns-then-d-ten-ne0
+returns c = left_over c.args.d _ c.ten_to-ten.ensures c.requires.0 (λ z. omega arith)
 
-div-n : tie.Need-nonzero-div-n
-div-n c = let t = c.before.before.before in ten_pos t.before.args.d _ t.ten-to.ensures t.before.requires.0
+div-n : tie.Need-nonzero_div-n
+div-n c = ten_pos c.args.d _ c.ten_to-ten.ensures c.requires.0
 
-cast-n : tie.Need-overflow-cast-n
-cast-n c = let t = c.before.before.before in record { sfits = small t.before.args.d _ t.ten-to.ensures t.before.requires.0 }
+cast-n : tie.Need-overflow_cast-n
+cast-n c = record { sfits = small c.args.d _ c.ten_to-ten.ensures c.requires.0 }
 
-sub-t6 : tie.Need-overflow-sub-t6
-sub-t6 c = let t = c.before.before.before.before in minus_fits _ (small t.before.args.d _ t.ten-to.ensures t.before.requires.0)
+sub-t6 : tie.Need-overflow_sub-result
+sub-t6 c = minus_fits _ (small c.args.d _ c.ten_to-ten.ensures c.requires.0)
 
-returns-2 : tie.Need-returns-2
+returns-2 : tie.Need-returns-then-d
 returns-2 c =
-    let o = c.before.before in
-    let t = o.before.before in
-    minus t.before.args.d _ t.ten-to.ensures t.before.requires.0 (omega arith) c.if2.true
+    minus c.args.d _ c.ten_to-ten.ensures c.requires.0 (omega arith) c.if-d.true
 
-returns-3 : tie.Need-returns-3
+returns-3 : tie.Need-returns
 returns-3 c =
-    let o = c.before.before in
-    let t = o.before.before in
-    plus t.before.args.d _ t.ten-to.ensures t.before.requires.0 (omega arith) c.if2.false
+    plus c.args.d _ c.ten_to-ten.ensures c.requires.0 (omega arith) c.if-d.false
 
 pub whole_spec : {M : Type 1} → statement M
 whole_spec =
-    tie.close (tie.spec ten-to-requires rem-if1 returns div-n cast-n sub-t6 returns-2 returns-3)
+    tie.close (tie.spec ten_to-requires rem-if1 returns div-n cast-n sub-t6 returns-2 returns-3)

@@ -10,56 +10,44 @@ use Rattle.text.proofs.Until.{ended, stopped, scans_on, ends_here, none_here}
 use Rattle.text.proofs.spans.line_end.Statement.{statement}
 use Rattle.text.proofs.spans.line_end.Tie as tie
 
-abbrev invariant-loop : tie.invariant-loop
+abbrev invariant-loop : tie.invariant-loop-i
 invariant-loop s i₀ i =
     (i ≤ length s) × (until at_end s ≡ i + until at_end (drop i s))
 
-abbrev decreases-loop : tie.decreases-loop
+abbrev decreases-loop : tie.decreases-loop-i
 decreases-loop s i₀ i =
     length s - i
 
-loop-holds : tie.Need-loop-init invariant-loop decreases-loop
+loop-holds : tie.Need-loop-i-init invariant-loop decreases-loop
 loop-holds c = (search rules, sym (zero-add _))
 
 ending-requires : tie.Need-ending-requires invariant-loop decreases-loop
 ending-requires c κs = search rules
 
-returns : tie.Need-returns invariant-loop decreases-loop
+returns : tie.Need-returns-then-ending-ne0 invariant-loop decreases-loop
 returns c =
-    let l = c.before.before.before in
-    let s = l.before.before.args.s.now in
-    let i = l.loop.i in
-    (stopped at_end s _ i l.loop.invariant.1 (search rules) (ends_here (drop i s) _ c.before.ending.ensures.0 c.if1.true), search rules)
+    let s = c.args.s.now in
+    let i = c.loop-i.i in
+    (stopped at_end s _ i c.loop-i.invariant.1 (search rules) (ends_here (drop i s) _ c.ending.ensures.0 c.if-ending-ne0.true), search rules)
 
-add-i : tie.Need-overflow-add-i invariant-loop decreases-loop
+add-i : tie.Need-overflow_add-i invariant-loop decreases-loop
 add-i c = search rules
 
-loop-less : tie.Need-loop-smaller invariant-loop decreases-loop
+loop-less : tie.Need-loop-i-smaller invariant-loop decreases-loop
 loop-less c = search rules
 
-loop-again : tie.Need-loop-preserved invariant-loop decreases-loop
+loop-again : tie.Need-loop-i-preserved invariant-loop decreases-loop
 loop-again c =
-    let l = c.before.before.before in
-    let s = l.before.before.args.s.now in
-    let i = l.loop.i in
-    (search rules, scans_on at_end s _ i l.loop.invariant.1 (search rules) (none_here (drop i s) _ c.before.ending.ensures.0 c.if1.false))
+    let s = c.args.s.now in
+    let i = c.loop-i.i in
+    (search rules, scans_on at_end s _ i c.loop-i.invariant.1 (search rules) (none_here (drop i s) _ c.ending.ensures.0 c.if-ending-ne0.false))
 
-returns-2 : tie.Need-returns-2 invariant-loop decreases-loop
+returns-2 : tie.Need-returns invariant-loop decreases-loop
 returns-2 c =
-    let l = c.before in
-    let s = l.before.before.args.s.now in
-    (ended at_end s _ l.loop.i l.loop.invariant.1 (search rules), search rules)
+    let s = c.args.s.now in
+    (ended at_end s _ c.loop-i.i c.loop-i.invariant.1 (search rules), search rules)
 
 pub line_end_spec : {M : Type 1} → statement M
 line_end_spec =
     tie.close
-    (tie.spec
-    invariant-loop
-    decreases-loop
-    loop-holds
-    ending-requires
-    returns
-    add-i
-    loop-less
-    loop-again
-    returns-2)
+    (tie.spec invariant-loop decreases-loop loop-holds ending-requires returns add-i loop-less loop-again returns-2)
