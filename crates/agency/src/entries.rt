@@ -13,19 +13,19 @@ use text::{FirstWord, NumberAnswer, WholeAnswer};
 const NINE: u8 = 57;
 
 // A word as a whole number, and the place after it.
-#[derive(Drop)]
+#[derive(Clone, Copy)]
 pub enum WholeAt {
     Whole { value: i32, next: usize },
     Malformed,
 }
 
-#[derive(Drop)]
+#[derive(Clone, Copy)]
 enum NumberAt {
     Number { value: f32, next: usize },
     Malformed,
 }
 
-#[derive(Drop)]
+#[derive(Clone, Copy)]
 enum WholesAt {
     Wholes {
         first: i32,
@@ -35,7 +35,7 @@ enum WholesAt {
     Malformed,
 }
 
-#[derive(Drop)]
+#[derive(Clone, Copy)]
 enum NumbersAt {
     Numbers {
         first: f32,
@@ -46,7 +46,7 @@ enum NumbersAt {
 }
 
 // A coefficient line.
-#[derive(Drop)]
+#[derive(Clone, Copy)]
 pub struct Entry {
     pub degree: i32,
     pub order: i32,
@@ -56,7 +56,7 @@ pub struct Entry {
     pub h_dot: f32,
 }
 
-#[derive(Drop)]
+#[derive(Clone, Copy)]
 pub enum EntryAnswer {
     Entry(Entry),
     Malformed,

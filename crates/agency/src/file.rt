@@ -16,31 +16,31 @@ use tables::N_COEFF;
 use text::FirstLine;
 
 // The degree and the order that are due.
-#[derive(Drop)]
+#[derive(Clone, Copy)]
 struct Place {
     degree: usize,
     order: usize,
 }
 
-#[derive(Drop)]
+#[derive(Clone, Copy)]
 enum HeaderAnswer {
     Header { year: i32, next: usize },
     Refused(Refusal),
 }
 
-#[derive(Drop)]
+#[derive(Clone, Copy)]
 struct Row {
     entry: Entry,
     next: usize,
 }
 
-#[derive(Drop)]
+#[derive(Clone, Copy)]
 enum RowAnswer {
     Row(Row),
     Refused(Refusal),
 }
 
-#[derive(Drop)]
+#[derive(Clone, Copy)]
 enum PlacedAnswer {
     Entry(Entry),
     Refused(Refusal),

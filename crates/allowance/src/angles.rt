@@ -4,7 +4,7 @@ ghost use Rattle.sums.specs.Recurrence.{angle, pole_angle};
 ghost use Rattle.bounds.specs.Bounds.{bounds};
 ghost use Rattle.allowance.specs.Code.{sin_cos};
 
-#[derive(Drop)]
+#[derive(Clone, Copy)]
 pub struct SinCos {
     pub sin: f32,
     pub cos: f32,

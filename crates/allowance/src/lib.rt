@@ -31,7 +31,7 @@ pub use profile::igrf_allowance;
 
 // What the sums read beside the lists: the pairs of the colatitude and the longitude, the reference
 // radius over the place's own, and the years since the epoch.
-#[derive(Drop)]
+#[derive(Clone, Copy)]
 struct Point {
     cos_theta: f32,
     sin_theta: f32,
@@ -42,14 +42,14 @@ struct Point {
 }
 
 // How far X, Y and Z can lie from the exact field, in nT.
-#[derive(Drop)]
+#[derive(Clone, Copy)]
 pub struct Allowances {
     pub x: f32,
     pub y: f32,
     pub z: f32,
 }
 
-#[derive(Drop)]
+#[derive(Clone, Copy)]
 pub enum AllowanceAnswer {
     Allowance(Allowances),
     Refused(Refusal),

@@ -6,7 +6,7 @@ ghost use Rattle.synthesis.specs.Sum.{Lent, inputs};
 ghost use Rattle.bounds.specs.Bounds.{bounds};
 ghost use Rattle.allowance.specs.Code.{pdp, qp};
 
-#[derive(Drop)]
+#[derive(Clone, Copy)]
 pub struct PDp {
     pub p: f32,
     pub dp: f32,

@@ -12,7 +12,7 @@ use crate::angles::SinCos;
 use crate::rows::{legendre_index, p_dp};
 
 // g cos + h sin and g sin + h cos, typeof.s.P and s·dP.
-#[derive(Drop)]
+#[derive(Clone, Copy)]
 pub struct Parts {
     pub gc: f32,
     pub gs: f32,

@@ -21,20 +21,20 @@ pub use listed::field_listed;
 pub use place::check_place;
 
 // The pair of the geodetic latitude.
-#[derive(Drop)]
+#[derive(Clone, Copy)]
 pub struct Latitude {
     pub sin: f32,
     pub cos: f32,
 }
 
-#[derive(Drop)]
+#[derive(Clone, Copy)]
 pub enum FieldAnswer {
     Field(GeomagneticField),
     Refused(Refusal),
 }
 
 // X, Y and Z before the error figures are looked at.
-#[derive(Drop)]
+#[derive(Clone, Copy)]
 enum ComponentsAnswer {
     Components(Xyz),
     Refused(Refusal),

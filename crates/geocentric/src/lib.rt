@@ -29,7 +29,7 @@ fn eccentricity_squared() -> f32
 }
 
 // A place as the model sees it: metres from the earth's centre, and the colatitude.
-#[derive(Drop)]
+#[derive(Clone, Copy)]
 pub struct Geocentric {
     pub r: f32,
     pub cos_theta: f32,

@@ -31,7 +31,7 @@ const FORECAST: i32 = 2025;
 // How many years lie between two sets.
 pub const YEARS: f32 = 5.0;
 
-#[derive(Drop)]
+#[derive(Clone, Copy)]
 pub enum IgrfAnswer {
     Components(Xyz),
     Refused(Refusal),

@@ -14,7 +14,7 @@ mod profile;
 pub use profile::{check_forecast, check_pair};
 
 // What a reader of a set answers: the set's epoch year, with its lists in the lent ones.
-#[derive(Drop)]
+#[derive(Clone, Copy)]
 pub enum ReadAnswer {
     Epoch(i32),
     Refused(Refusal),

@@ -2,10 +2,13 @@
 use mathlib.Core.Path.{◌≡◌, refl, sym, ap, ◌∙◌}
 use mathlib.Core.Bool.{true, false}
 use mathlib.Core.List.{List, [], ◌∷◌}
-use Prim.Native.Nat.{ℕ, zero, suc, ◌-◌, ◌<◌, ◌≤◌}
+use Prim.Native.Nat.{ℕ, zero, suc, ◌+◌, ◌-◌, ◌<◌, ◌≤◌}
 use native.Mathlib.Omega.{arith}
 use lib.IntN.{ℤ}
-use lib.ListN.{length, get_or, drop, length-drop}
+use lib.ListN.{length, get_or, drop, length-drop, drop_of_length-le}
+use Rattle.std.proofs.Common.{add-one, drop-cons}
+use Rattle.refusals.specs.declared.Refusal.TheVariants.{NoErrorRecord}
+use Rattle.refusals.specs.Paper.{paper}
 use Rattle.models.specs.declared.records.ErrorRecord.{ErrorRecord}
 use Rattle.models.specs.Epochs.{same_year}
 use Rattle.models.specs.Records.{figures_says, listed_errors}
@@ -59,3 +62,19 @@ module _ (r : ErrorRecord) (zs : List ErrorRecord) (year : ℤ) where
 
 abbrev pub next : {ys : List ErrorRecord} {year : ℤ} (i : ℕ) (r : ErrorRecord) (zs : List ErrorRecord) → drop i ys ≡ r ∷ zs → listed_errors (r ∷ zs) year ≡ listed_errors ys year → same_year year r.epoch_year ≡ false → Turn ys year
 next {ys} {year} i r zs e s n = record { i = suc i; zs = zs; rest = tail_at i ys e; still = sym (passed_over r zs year n) ∙ s }
+
+-- ---- what a turn finds, by the place that it stands at
+module _ (xs : List ErrorRecord) (year : ℤ) (d : ErrorRecord) (i : ℕ) (h : i < length xs) (k : listed_errors (drop i xs) year ≡ listed_errors xs year) where
+  here : drop i xs ≡ get_or xs i d ∷ drop (suc i) xs
+  here = drop-cons xs i d h
+
+  pub met_at : same_year year (get_or xs i d).epoch_year ≡ true → listed_errors xs year ≡ figures_says (get_or xs i d).figures
+  met_at e = sym k ∙ ap (λ (l : List ErrorRecord). listed_errors l year) here ∙ first_match (get_or xs i d) (drop (suc i) xs) year e
+
+  pub passed_at : same_year year (get_or xs i d).epoch_year ≡ false → listed_errors (drop (i + 1) xs) year ≡ listed_errors xs year
+  passed_at e = rw add-one (sym (passed_over (get_or xs i d) (drop (suc i) xs) year e) ∙ ap (λ (l : List ErrorRecord). listed_errors l year) (sym here) ∙ k)
+
+-- the end of the list: no record is of the year
+pub none_left : (xs : List ErrorRecord) (year : ℤ) (i : ℕ) → length xs ≤ i → listed_errors (drop i xs) year ≡ listed_errors xs year → listed_errors xs year ≡ paper NoErrorRecord
+unfolding listed_errors
+none_left xs year i h k = sym k ∙ rw (drop_of_length-le xs {i = i} h)

@@ -24,7 +24,7 @@ abbrev pub slice_val_of : {X : Type 0} → Bor (List X) → Val
 slice_val_of x = slice_val x.ref_ptr (length x.now)
 
 abbrev pub place_val : {X : Type 0} → Bor X → Val
-place_val x = vptr x.ptr.0 x.ptr.1
+place_val x = vptr x.ref_ptr.0 x.ref_ptr.1
 
 -- ---- a goal P ∗ (⌜φ⌝ ∗ ⌜ψ⌝), as the clauses of an `ensures` stand: all are shown, and P is left
 module _ {M : Type 1} {𝓤 : Ura M} {𝓛 : Logic 𝓤} {K : Type 0} {Γ : List (Item 𝓤)} where

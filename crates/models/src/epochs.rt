@@ -15,13 +15,13 @@ const IGRF_FIRST_YEAR: u16 = 2000;
 
 const LAST_YEAR: i32 = 2029;
 
-#[derive(Drop)]
+#[derive(Clone, Copy)]
 pub struct EpochOffset {
     pub epoch_year: i32,
     pub offset: f32,
 }
 
-#[derive(Drop)]
+#[derive(Clone, Copy)]
 pub enum EpochAnswer {
     Epoch(EpochOffset),
     Refused(Refusal),

@@ -8,7 +8,7 @@ use refusals::Refusal;
 // Angles in degrees, strengths in nT. The declination's error is the root of the squares of sigma_c and
 // sigma_v / H. C and Rust lend lists that hold it, so its layout is C's.
 #[repr(C)]
-#[derive(Drop)]
+#[derive(Clone, Copy)]
 pub struct WmmErrorModel {
     pub declination_sigma_c: f32,
     pub declination_sigma_v: f32,
@@ -20,7 +20,7 @@ pub struct WmmErrorModel {
     pub z: f32,
 }
 
-#[derive(Drop)]
+#[derive(Clone, Copy)]
 pub enum ErrorModelAnswer {
     Model(WmmErrorModel),
     Refused(Refusal),

@@ -11,7 +11,7 @@ use refusals::Refusal;
 
 // The figures of one epoch. Lists of it are lent by C and Rust too.
 #[repr(C)]
-#[derive(Drop)]
+#[derive(Clone, Copy)]
 pub struct ErrorRecord {
     pub epoch_year: i32,
     pub figures: WmmErrorModel,

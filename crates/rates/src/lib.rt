@@ -25,7 +25,7 @@ pub use profile::igrf_rates;
 const DEGREES_IN_RADIAN: f32 = f32::from_bits(0x42652ee1);
 
 // X, Y, Z, H and F in nT a year, declination and inclination in degrees a year.
-#[derive(Drop)]
+#[derive(Clone, Copy)]
 pub struct YearlyRates {
     pub x: f32,
     pub y: f32,
@@ -36,7 +36,7 @@ pub struct YearlyRates {
     pub f: f32,
 }
 
-#[derive(Drop)]
+#[derive(Clone, Copy)]
 pub enum RatesAnswer {
     Rates(YearlyRates),
     Refused(Refusal),

@@ -6,13 +6,13 @@ ghost use Rattle.std.specs.Prelude.{◌≡◌};
 ghost use Rattle.refusals.specs.Paper.{line};
 
 // A day: a year and the day of that year.
-#[derive(Drop)]
+#[derive(Clone, Copy)]
 pub struct Day {
     pub year: i32,
     pub day_of_year: i32,
 }
 
-#[derive(Drop)]
+#[derive(Clone, Copy)]
 pub enum Refusal {
     // 1: the two limits, in kilometres.
     Height { min_km: f32, max_km: f32 },
@@ -94,7 +94,7 @@ pub fn number(k: Refusal) -> u32
 }
 
 // What a group of checks finds.
-#[derive(Drop)]
+#[derive(Clone, Copy)]
 pub enum Verdict {
     Accepted,
     Refused(Refusal),

@@ -33,7 +33,7 @@ pub fn sqrt_by_guess(x: f32, guess: f32) -> f32
 }
 
 // What `square_root` answers.
-#[derive(Drop)]
+#[derive(Clone, Copy)]
 pub enum RootAnswer {
     Root(f32),
     Refused(Refusal),

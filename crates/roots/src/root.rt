@@ -79,7 +79,7 @@ fn near_root(x: u64) -> u64
 }
 
 // An f32 above zero: m * 2 ^ (f - 214), with m of 24 binary digits.
-#[derive(Drop)]
+#[derive(Clone, Copy)]
 struct Scaled {
     m: u32,
     f: u32,

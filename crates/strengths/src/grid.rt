@@ -6,7 +6,7 @@ use refusals::Refusal;
 
 const GRID_VARIATION_MIN_ABS_LATITUDE_DEG: f32 = 55.0;
 
-#[derive(Drop)]
+#[derive(Clone, Copy)]
 pub enum GridAnswer {
     Variation(f32),
     Absent,

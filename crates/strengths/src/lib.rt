@@ -26,7 +26,7 @@ const CAUTION_ZONE_H_NT: f32 = 6000.0;
 const MAX_DECLINATION_UNCERTAINTY_DEG: f32 = 180.0;
 
 // North, east and down in nT, and the error figures of the model that answered.
-#[derive(Drop)]
+#[derive(Clone, Copy)]
 pub struct GeomagneticField {
     pub x: f32,
     pub y: f32,
@@ -34,13 +34,13 @@ pub struct GeomagneticField {
     pub error: WmmErrorModel,
 }
 
-#[derive(Drop)]
+#[derive(Clone, Copy)]
 pub enum StrengthAnswer {
     Strength(f32),
     Refused(Refusal),
 }
 
-#[derive(Drop)]
+#[derive(Clone, Copy)]
 pub enum ZoneAnswer {
     Blackout,
     Caution,

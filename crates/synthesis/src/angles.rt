@@ -4,14 +4,14 @@ ghost use Rattle.synthesis.specs.Code.{angles_of};
 
 use crate::M_LEN;
 
-#[derive(Drop)]
+#[derive(Clone, Copy)]
 pub struct Angles {
     pub sin: [f32; M_LEN],
     pub cos: [f32; M_LEN],
 }
 
 // The pair of one order.
-#[derive(Drop)]
+#[derive(Clone, Copy)]
 pub struct SinCos {
     pub sin: f32,
     pub cos: f32,

@@ -5,7 +5,7 @@ ghost use Rattle.sums.specs.Recurrence.{coefficient};
 ghost use Rattle.synthesis.specs.Code.{gh_at};
 
 // Two coefficients of one degree and order.
-#[derive(Drop)]
+#[derive(Clone, Copy)]
 pub struct Gh {
     pub g: f32,
     pub h: f32,

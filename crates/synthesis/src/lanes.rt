@@ -14,7 +14,7 @@ use tables::N_MAX;
 pub const W_LEN: usize = 2 * N_MAX;
 
 // P(m, m) and its derivative, by order.
-#[derive(Drop)]
+#[derive(Clone, Copy)]
 pub struct Starts {
     pub p: [f32; M_LEN],
     pub dp: [f32; M_LEN],
@@ -47,7 +47,7 @@ pub fn below_then(below: f32, then: f32) -> [f32; W_LEN]
 }
 
 // P and its derivative in four lanes, side by side.
-#[derive(Drop)]
+#[derive(Clone, Copy)]
 pub struct Four {
     pub r0: PDp,
     pub r1: PDp,
@@ -56,7 +56,7 @@ pub struct Four {
 }
 
 // The factors of four lanes.
-#[derive(Drop)]
+#[derive(Clone, Copy)]
 pub struct FourK {
     pub k0: f32,
     pub k1: f32,

@@ -24,28 +24,28 @@ mod terms;
 const M_LEN: usize = tables::N_MAX + 1;
 
 // The pair of the geocentric colatitude.
-#[derive(Drop)]
+#[derive(Clone, Copy)]
 pub struct Colatitude {
     pub cos: f32,
     pub sin: f32,
 }
 
 // The pair of the longitude.
-#[derive(Drop)]
+#[derive(Clone, Copy)]
 pub struct Longitude {
     pub sin: f32,
     pub cos: f32,
 }
 
 // X', Y and Z' in nT.
-#[derive(Drop)]
+#[derive(Clone, Copy)]
 pub struct Xyz {
     pub x: f32,
     pub y: f32,
     pub z: f32,
 }
 
-#[derive(Drop)]
+#[derive(Clone, Copy)]
 pub enum SumAnswer {
     Sum(Xyz),
     Refused(Refusal),

@@ -15,7 +15,7 @@ use crate::terms::term_of;
 use tables::N_LEGENDRE;
 
 // What a degree hands on: P of its orders 0 and 1, and Q.
-#[derive(Drop)]
+#[derive(Clone, Copy)]
 pub struct PoleRow {
     pub r0: PDp,
     pub r1: PDp,

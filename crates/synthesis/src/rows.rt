@@ -9,14 +9,14 @@ use crate::M_LEN;
 use crate::lanes::Four;
 
 // P and its derivative with respect to the colatitude.
-#[derive(Drop)]
+#[derive(Clone, Copy)]
 pub struct PDp {
     pub p: f32,
     pub dp: f32,
 }
 
 // Which row holds degree n - 2, n - 1 and n.
-#[derive(Drop)]
+#[derive(Clone, Copy)]
 pub struct Places {
     pub prev2: usize,
     pub prev1: usize,

@@ -56,7 +56,7 @@ pub fn term(
 }
 
 // The terms of four orders, side by side.
-#[derive(Drop)]
+#[derive(Clone, Copy)]
 pub struct FourXyz {
     pub v0: Xyz,
     pub v1: Xyz,

@@ -20,7 +20,7 @@ const NINE: u32 = 57;
 
 // Where a run of digits ended: the place after it, how many more digits there could have been, and
 // the number so far.
-#[derive(Drop)]
+#[derive(Clone, Copy)]
 struct Ended {
     end: usize,
     left: u32,

@@ -12,40 +12,40 @@ ghost use Rattle.text.specs.Words.{first_word};
 ghost use Rattle.text.specs.Decimals.{decimal_of, decimal_said, number_of, number_said, whole_of, whole_said};
 
 // Where the first line ends, without what ends it, and where the next one starts.
-#[derive(Drop)]
+#[derive(Clone, Copy)]
 pub struct FirstLine {
     pub end: usize,
     pub next: usize,
 }
 
 // Where the first word starts, and where it ends. Without a word both are the end.
-#[derive(Drop)]
+#[derive(Clone, Copy)]
 pub struct FirstWord {
     pub start: usize,
     pub end: usize,
 }
 
 // A decimal number: its digits as one whole number, and how many of them stand after the point.
-#[derive(Drop)]
+#[derive(Clone, Copy)]
 pub struct Decimal {
     pub minus: bool,
     pub digits: u32,
     pub places: u32,
 }
 
-#[derive(Drop)]
+#[derive(Clone, Copy)]
 pub enum DecimalAnswer {
     Decimal(Decimal),
     Malformed,
 }
 
-#[derive(Drop)]
+#[derive(Clone, Copy)]
 pub enum NumberAnswer {
     Number(f32),
     Malformed,
 }
 
-#[derive(Drop)]
+#[derive(Clone, Copy)]
 pub enum WholeAnswer {
     Whole(i32),
     Malformed,

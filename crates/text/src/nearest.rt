@@ -24,7 +24,7 @@ fn ten_to(places: u32) -> u32
 }
 
 // A number with its leading digit brought to the 32nd place, and by how many places.
-#[derive(Drop)]
+#[derive(Clone, Copy)]
 struct Up {
     n: u64,
     by: u32,

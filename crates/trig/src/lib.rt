@@ -9,14 +9,14 @@ ghost use Rattle.trig.specs.Angle.{PairOf, OnCircle};
 use refusals::Refusal;
 
 // A sine and a cosine of one angle.
-#[derive(Drop)]
+#[derive(Clone, Copy)]
 pub struct Pair {
     pub sine: f32,
     pub cosine: f32,
 }
 
 // What `sine_and_cosine` answers.
-#[derive(Drop)]
+#[derive(Clone, Copy)]
 pub enum PairAnswer {
     Made(Pair),
     Refused(Refusal),
@@ -131,7 +131,7 @@ fn small_pair(m: u64, k: u64) -> Pair
 }
 
 // An angle of m / (2^k * 2^18) degrees.
-#[derive(Drop)]
+#[derive(Clone, Copy)]
 struct Scaled {
     m: u64,
     k: u64,

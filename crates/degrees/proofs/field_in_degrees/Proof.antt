@@ -32,7 +32,7 @@ field-requires : tie.Need-field-requires
 field-requires c κs = search rules
 
 abbrev asks : tie.Start → Place
-asks s = let a = s.args in place a.height a.latitude-deg a.longitude-deg a.epoch_year_lem a.g.now a.h.now a.g_dot.now a.h_dot.now
+asks s = let a = s.args in place a.height a.latitude-deg a.longitude-deg a.epoch_year a.g.now a.h.now a.g_dot.now a.h_dot.now
 
 returns : tie.Need-returns
 returns c =
@@ -66,7 +66,7 @@ returns-3 c =
     let f = t.before in
     let s = start f in
     let d = s.args.day in
-    let y = to_z-of_z w32 s.args.epoch_year_lem s.fits.epoch_year_lem in
+    let y = to_z-of_z w32 s.args.epoch_year s.fits.epoch_year in
     let e = rw y at c.field.ensures.0 ∙ asked_field (asks s) d.year d.day_of_year _ (made f) _ (sym (ap said l.lambda.given.1) ∙ t.sine-and-cosine2.ensures.0) in
     (e, (said_close (asks s) d.year d.day_of_year _ e, (refl, refl, refl, refl)))
 

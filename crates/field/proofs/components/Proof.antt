@@ -38,7 +38,7 @@ enum-known-e c = search rules
 abbrev asks : tie.Start → Asked
 asks s =
     let a = s.args in
-    asked a.height a.latitude.sin a.latitude.cos a.longitude.sin a.longitude.cos a.epoch_year_lem a.g.now a.h.now a.g_dot.now a.h_dot.now
+    asked a.height a.latitude.sin a.latitude.cos a.longitude.sin a.longitude.cos a.epoch_year a.g.now a.h.now a.g_dot.now a.h_dot.now
 
 day_said : (c : tie.After-epoch) → said c.epoch.result ≡ epoch_says c.before.before.before.before.before.before.before.before.before.before.args.day.year c.before.before.before.before.before.before.before.before.before.before.args.day.day_of_year
 day_said c =
@@ -58,7 +58,7 @@ components-at-requires c κs =
     let q = d.before.before in
     let o = q.before.before.before in
     let s = o.before.before.before.before.before.before.before in
-    let y = to_z-of_z w32 s.args.epoch_year_lem s.ranges.epoch_year_lem in
+    let y = to_z-of_z w32 s.args.epoch_year s.ranges.epoch_year in
     rw y (accepted_at (asks s) _ _ (passed_place o) _ (sym (day_said q) ∙ ap said d.e.given.1))
 
 returns-2 : tie.Need-returns-2
@@ -74,7 +74,7 @@ returns-3 c =
     let q = d.before.before in
     let o = q.before.before.before in
     let s = o.before.before.before.before.before.before.before in
-    let y = to_z-of_z w32 s.args.epoch_year_lem s.ranges.epoch_year_lem in
+    let y = to_z-of_z w32 s.args.epoch_year s.ranges.epoch_year in
     day_answered (asks s) _ _ (passed_place o) _ (sym (ap said d.e.given.1) ∙ day_said q) _ (rw y at c.components-at.ensures)
 
 pub components_spec : {M : Type 1} → statement M

@@ -19,18 +19,18 @@ returns : tie.Need-returns
 returns c =
     let k = c.before in
     let s = k.before.before.before.before.before.before.before.before in
-    unknown_set _ _ (sym (k.known_epoch_lem.ensures ∙ ap known_epoch (to_z-of_z w32 s.args.epoch_year_lem s.ranges.epoch_year_lem)) ∙ not-true _ c.if2.true)
+    unknown_set _ _ (sym (k.known_epoch.ensures ∙ ap known_epoch (to_z-of_z w32 s.args.epoch_year s.ranges.epoch_year)) ∙ not-true _ c.if2.true)
 
 -- the set's year is known: it was asked, or it is the day's
 abbrev start : tie.Joined1 → tie.Start
 start c = c.before.before.before.before.before.before.before
 
-set_known : (c : tie.Joined1) → known_epoch (start c).args.epoch_year_lem ≡ true
+set_known : (c : tie.Joined1) → known_epoch (start c).args.epoch_year ≡ true
 set_known c =
     let s = start c in
     ⊎_elim
-    (λ w. sym (w.1.ensures ∙ ap known_epoch (to_z-of_z w32 s.args.epoch_year_lem s.fits.epoch_year_lem)) ∙ not-false _ w.2.left)
-    (λ o. own_known _ _ s.fits.epoch_year_lem s.pre.known o.left)
+    (λ w. sym (w.1.ensures ∙ ap known_epoch (to_z-of_z w32 s.args.epoch_year s.fits.epoch_year)) ∙ not-false _ w.2.left)
+    (λ o. own_known _ _ s.fits.epoch_year s.pre.known o.left)
     c.if1.branch
 
 geodetic-to-geocentric-requires : tie.Need-geodetic-to-geocentric-requires
@@ -73,7 +73,7 @@ returns-3 c =
     let e = p.before in
     let s = start e in
     strengths_shown _ _ s.pre (set_known e) _ p.geodetic_to_geocentric.ensures _ q.radius_ratio.ensures _ (sym (ap said v.v.given.1) ∙ m.sum.ensures.0) _ t.turn.ensures _
-    (rw (to_z-of_z w32 s.args.epoch_year_lem s.fits.epoch_year_lem, year_back s.args.e.epoch_year s.pre.known) at c.shown.ensures)
+    (rw (to_z-of_z w32 s.args.epoch_year s.fits.epoch_year, year_back s.args.e.epoch_year s.pre.known) at c.shown.ensures)
 
 pub components_at_spec : {M : Type 1} → statement M
 components_at_spec =

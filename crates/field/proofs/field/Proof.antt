@@ -21,7 +21,7 @@ with-figures-requires c κs = search rules
 abbrev asks : tie.Start → Asked
 asks s =
     let a = s.args in
-    asked a.height a.latitude.sin a.latitude.cos a.longitude.sin a.longitude.cos a.epoch_year_lem a.g.now a.h.now a.g_dot.now a.h_dot.now
+    asked a.height a.latitude.sin a.latitude.cos a.longitude.sin a.longitude.cos a.epoch_year a.g.now a.h.now a.g_dot.now a.h_dot.now
 
 returns : tie.Need-returns
 unfolding field_says field_with
@@ -30,10 +30,10 @@ returns c =
     let k = m.before in
     let s = k.before.before.before.before.before in
     let d = s.args.day in
-    let y = to_z-of_z w32 s.args.epoch_year_lem s.ranges.epoch_year_lem in
-    let f : error_said m.error_model_by_epoch_year.result ≡ error_says s.args.epoch_year_lem = m.error_model_by_epoch_year.ensures ∙ ap error_says y in
+    let y = to_z-of_z w32 s.args.epoch_year s.ranges.epoch_year in
+    let f : error_said m.error_model_by_epoch_year.result ≡ error_says s.args.epoch_year = m.error_model_by_epoch_year.ensures ∙ ap error_says y in
     let p : components_said k.components.result ≡ components_says (asks s) d.year d.day_of_year = rw y at k.components.ensures in
-    let w : said c.with-figures.result ≡ field_with (error_says s.args.epoch_year_lem) (asks s) d.year d.day_of_year = c.with-figures.ensures ∙ rw (p, f) in
+    let w : said c.with-figures.result ≡ field_with (error_says s.args.epoch_year) (asks s) d.year d.day_of_year = c.with-figures.ensures ∙ rw (p, f) in
     let e = w ∙ by_8 error_says (asks s) d.year d.day_of_year in
     (e, (field_close (asks s) d.year d.day_of_year _ e, (refl, refl, refl, refl)))
 

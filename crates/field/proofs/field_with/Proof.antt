@@ -20,7 +20,7 @@ returns : tie.Need-returns
 unfolding field_with
 returns c =
     let s = c.before.before.before.before.before.before in
-    let y = to_z-of_z w32 s.args.epoch_year_lem s.ranges.epoch_year_lem in
+    let y = to_z-of_z w32 s.args.epoch_year s.ranges.epoch_year in
     (c.with-figures.ensures ∙ ap (λ (p : Paper Xyz). record_says p (error_said s.args.figures)) (rw y at c.before.components.ensures), (refl, refl, refl, refl))
 
 pub field_with_spec : {M : Type 1} → statement M

@@ -19,7 +19,7 @@ use Rattle.igrf.proofs.igrf_by.Tie as tie
 abbrev asks : tie.Start → Profile
 asks s =
     let a = s.args in
-    profile (asked a.height a.latitude.sin a.latitude.cos a.longitude.sin a.longitude.cos a.epoch_year_lem a.g.now a.h.now a.g_dot.now a.h_dot.now) a.second-epoch-year a.second_g.now a.second_h.now
+    profile (asked a.height a.latitude.sin a.latitude.cos a.longitude.sin a.longitude.cos a.epoch_year a.g.now a.h.now a.g_dot.now a.h_dot.now) a.second-epoch-year a.second_g.now a.second_h.now
 
 abbrev begun : tie.After-check-place → tie.Start
 begun p = p.before.before.before.before.before.before.before
@@ -102,7 +102,7 @@ module _ (c : tie.After-on-day) where
   on_day_said =
       let s = start here in
       let a = s.args in
-      rw (early_is, to_z-of_z w32 a.epoch_year_lem s.fits.epoch_year_lem, to_z-of_z w32 a.second-epoch-year s.fits.second-epoch-year) at c.on_day.ensures
+      rw (early_is, to_z-of_z w32 a.epoch_year s.fits.epoch_year, to_z-of_z w32 a.second-epoch-year s.fits.second-epoch-year) at c.on_day.ensures
 
 returns-3 : tie.Need-returns-3
 returns-3 c =

@@ -13,7 +13,7 @@ igrf-by-requires c κs = search rules
 returns : tie.Need-returns
 returns c =
     let s = c.before.before.before.before.before.before.before in
-    let e = rw (to_z-of_z w32 s.args.epoch_year_lem s.ranges.epoch_year_lem, to_z-of_z w32 s.args.second-epoch-year s.ranges.second-epoch-year) at c.igrf-by.ensures in
+    let e = rw (to_z-of_z w32 s.args.epoch_year s.ranges.epoch_year, to_z-of_z w32 s.args.second-epoch-year s.ranges.second-epoch-year) at c.igrf-by.ensures in
     (e, (answer_rates_close _ _ _ _ e, (refl, refl, refl, refl, refl, refl)))
 
 pub igrf_component_rates_spec : {M : Type 1} → statement M

@@ -16,7 +16,7 @@ use Rattle.igrf.proofs.on_day.Tie as tie
 abbrev asks : tie.Start → Profile
 asks s =
     let a = s.args in
-    profile (asked a.height a.latitude.sin a.latitude.cos a.longitude.sin a.longitude.cos a.epoch_year_lem a.g.now a.h.now a.g_dot.now a.h_dot.now) a.second-epoch-year a.second_g.now a.second_h.now
+    profile (asked a.height a.latitude.sin a.latitude.cos a.longitude.sin a.longitude.cos a.epoch_year a.g.now a.h.now a.g_dot.now a.h_dot.now) a.second-epoch-year a.second_g.now a.second_h.now
 
 abbrev begun : tie.After-check-read → tie.Start
 begun r = r.before.before.before.before.before.before.before
@@ -60,7 +60,7 @@ module _ (y : tie.After-check-years) where
 
   years_said : y.check-years.result ≡ of_years (asks start) start.args.soon start.args.e
   years_said =
-      rw (to_z-of_z w32 start.args.e.epoch_year (record { sfits = told.struct_told.given.0.1 }), to_z-of_z w32 start.args.epoch_year_lem start.fits.epoch_year_lem, to_z-of_z w32 start.args.second-epoch-year start.fits.second-epoch-year)
+      rw (to_z-of_z w32 start.args.e.epoch_year (record { sfits = told.struct_told.given.0.1 }), to_z-of_z w32 start.args.epoch_year start.fits.epoch_year, to_z-of_z w32 start.args.second-epoch-year start.fits.second-epoch-year)
       at y.check-years.ensures
 
 enum-known-k-2 : tie.Need-enum-known-k-2
@@ -88,7 +88,7 @@ returns-3 c =
     let y = o.before.before in
     let s = start y in
     day_shown s.args.as-rates (asks s) s.args.soon s.args.e (lists_good y) (same (years_said y) o.enum-told2.given.1) _
-    (c.between-sets.ensures s.args.epoch_year_lem s.args.e refl ∙ ap (λ (q : Asked). answered (found_by s.args.as-rates q s.args.e)) (by_two (asks s) s.args.soon i.if1.true))
+    (c.between-sets.ensures s.args.epoch_year s.args.e refl ∙ ap (λ (q : Asked). answered (found_by s.args.as-rates q s.args.e)) (by_two (asks s) s.args.soon i.if1.true))
 
 found-by-requires : tie.Need-found-by-requires
 found-by-requires c κs =
@@ -103,7 +103,7 @@ returns-4 c =
     let y = o.before.before in
     let s = start y in
     day_shown s.args.as-rates (asks s) s.args.soon s.args.e (lists_good y) (same (years_said y) o.enum-told2.given.1) _
-    (c.found-by.ensures s.args.epoch_year_lem s.args.e refl ∙ ap (λ (q : Asked). answered (found_by s.args.as-rates q s.args.e)) (by_one (asks s) s.args.soon i.if1.false))
+    (c.found-by.ensures s.args.epoch_year s.args.e refl ∙ ap (λ (q : Asked). answered (found_by s.args.as-rates q s.args.e)) (by_one (asks s) s.args.soon i.if1.false))
 
 pub on_day_spec : {M : Type 1} → statement M
 on_day_spec =

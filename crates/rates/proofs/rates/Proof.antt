@@ -57,13 +57,13 @@ turn-requires c κs = search rules
 abbrev asks : tie.Start → Asked
 asks s =
     let a = s.args in
-    asked a.height a.latitude.sin a.latitude.cos a.longitude.sin a.longitude.cos a.epoch_year_lem a.g.now a.h.now a.g_dot.now a.h_dot.now
+    asked a.height a.latitude.sin a.latitude.cos a.longitude.sin a.longitude.cos a.epoch_year a.g.now a.h.now a.g_dot.now a.h_dot.now
 
 abbrev begun : tie.After-field → tie.Start
 begun c = c.before.before.before.before.before
 
 field_said : (c : tie.After-field) → fields.said c.field.result ≡ field_says (asks (begun c)) (begun c).args.day.year (begun c).args.day.day_of_year
-field_said c = let s = begun c in rw (to_z-of_z w32 s.args.epoch_year_lem s.fits.epoch_year_lem) at c.field.ensures.0
+field_said c = let s = begun c in rw (to_z-of_z w32 s.args.epoch_year s.fits.epoch_year) at c.field.ensures.0
 
 returns-2 : tie.Need-returns-2
 returns-2 c =

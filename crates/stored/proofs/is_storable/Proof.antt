@@ -21,12 +21,12 @@ above (pos n) e = refl
 above (negsuc n) e = absurd (subst T e tt)
 
 returns : tie.Need-returns
-returns c = let z = c.before.args.epoch_year_lem in below z (rw (to_z-of_z w32 z c.before.ranges.epoch_year_lem) at c.if1.true)
+returns c = let z = c.before.args.epoch_year in below z (rw (to_z-of_z w32 z c.before.ranges.epoch_year) at c.if1.true)
 
 returns-2 : tie.Need-returns-2
 returns-2 c =
-    let z = c.before.args.epoch_year_lem in
-    let e = to_z-of_z w32 z c.before.ranges.epoch_year_lem in
+    let z = c.before.args.epoch_year in
+    let e = to_z-of_z w32 z c.before.ranges.epoch_year in
     rw e (above z (rw e at c.if1.false))
 
 pub is_storable_spec : {M : Type 1} → statement M

@@ -20,7 +20,7 @@ returns : tie.Need-returns
 returns c =
     let l = c.before in
     let a = l.before.before.before.before.before.before.args in
-    (not_ninety_lists a.epoch_year_lem (lists_of a.g.now a.h.now a.g_dot.now a.h_dot.now) a.bytes.now _ l.lists_long.ensures.0 c.if1.true, (refl, refl, refl, refl))
+    (not_ninety_lists a.epoch_year (lists_of a.g.now a.h.now a.g_dot.now a.h_dot.now) a.bytes.now _ l.lists_long.ensures.0 c.if1.true, (refl, refl, refl, refl))
 
 write-by-requires : tie.Need-write-by-requires
 write-by-requires c κs =
@@ -39,8 +39,8 @@ returns-2 c =
     let l = o.before in
     let s = l.before.before.before.before.before.before in
     let a = s.args in
-    let y = to_z-of_z w32 a.epoch_year_lem s.ranges.epoch_year_lem in
-    ((rw y at p.write-by.ensures) ∙ ninety_lists a.epoch_year_lem (lists_of a.g.now a.h.now a.g_dot.now a.h_dot.now) a.bytes.now _ l.lists_long.ensures.0 o.if1.false, (refl, refl, refl, refl))
+    let y = to_z-of_z w32 a.epoch_year s.ranges.epoch_year in
+    ((rw y at p.write-by.ensures) ∙ ninety_lists a.epoch_year (lists_of a.g.now a.h.now a.g_dot.now a.h_dot.now) a.bytes.now _ l.lists_long.ensures.0 o.if1.false, (refl, refl, refl, refl))
 
 pub write_spec : {M : Type 1} → statement M
 write_spec =

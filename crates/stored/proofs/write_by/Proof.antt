@@ -27,8 +27,8 @@ sized (pos n) e = (tt, record { fits = let h = leb-true n 65535 e in omega (arit
 sized (negsuc n) e = absurd (subst T (sym e) tt)
 
 -- what the year's test found
-tested : (i : tie.After-is-storable) → i.is-storable.result ≡ storable i.before.before.before.before.before.before.before.before.before.args.epoch_year_lem
-tested i = let s = i.before.before.before.before.before.before.before.before.before in rw (to_z-of_z w32 s.args.epoch_year_lem s.ranges.epoch_year_lem) at i.is-storable.ensures
+tested : (i : tie.After-is-storable) → i.is-storable.result ≡ storable i.before.before.before.before.before.before.before.before.before.args.epoch_year
+tested i = let s = i.before.before.before.before.before.before.before.before.before in rw (to_z-of_z w32 s.args.epoch_year s.ranges.epoch_year) at i.is-storable.ensures
 
 check-caps-requires : tie.Need-check-caps-requires
 check-caps-requires c κs = search rules
@@ -40,7 +40,7 @@ returns : tie.Need-returns
 returns c =
     let w = c.before.before.before in
     let a = w.before.before.before.before.before.before.args in
-    refused_caps a.entries a.epoch_year_lem (lists_of a.g.now a.h.now a.g_dot.now a.h_dot.now) a.bytes.now w.check_caps.result w.check_caps.ensures.0 c.before.k.given.0.0 c.before.k.given.1
+    refused_caps a.entries a.epoch_year (lists_of a.g.now a.h.now a.g_dot.now a.h_dot.now) a.bytes.now w.check_caps.result w.check_caps.ensures.0 c.before.k.given.0.0 c.before.k.given.1
 
 enum_told : tie.Need-enum-told
 enum_told c = search rules
@@ -54,7 +54,7 @@ returns-2 c =
     let t = i.before in
     let w = t.before.before in
     let a = w.before.before.before.before.before.before.args in
-    year_refused a.entries a.epoch_year_lem (lists_of a.g.now a.h.now a.g_dot.now a.h_dot.now) a.bytes.now w.check_caps.result w.check_caps.ensures.0 t.enum_told.given.1 _ (tested i) c.if1.true
+    year_refused a.entries a.epoch_year (lists_of a.g.now a.h.now a.g_dot.now a.h_dot.now) a.bytes.now w.check_caps.result w.check_caps.ensures.0 t.enum_told.given.1 _ (tested i) c.if1.true
 
 stored-length-requires : tie.Need-stored-length-requires
 stored-length-requires c κs = search rules
@@ -67,15 +67,15 @@ returns-3 c =
     let t = i.before in
     let w = t.before.before in
     let a = w.before.before.before.before.before.before.args in
-    no_room a.entries a.epoch_year_lem (lists_of a.g.now a.h.now a.g_dot.now a.h_dot.now) a.bytes.now w.check_caps.result w.check_caps.ensures.0 t.enum_told.given.1 _ (tested i) o.if1.false _ m.stored-length.ensures c.if2.true
+    no_room a.entries a.epoch_year (lists_of a.g.now a.h.now a.g_dot.now a.h_dot.now) a.bytes.now w.check_caps.result w.check_caps.ensures.0 t.enum_told.given.1 _ (tested i) o.if1.false _ m.stored-length.ensures c.if2.true
 
 cast-set : tie.Need-overflow-cast-set
 cast-set c =
     let o = c.before.before.before in
     let i = o.before in
     let s = i.before.before.before.before.before.before.before.before.before in
-    let z = s.args.epoch_year_lem in
-    rw (to_z-of_z w32 z s.ranges.epoch_year_lem) (sized z (sym (tested i) ∙ not-false _ o.if1.false))
+    let z = s.args.epoch_year in
+    rw (to_z-of_z w32 z s.ranges.epoch_year) (sized z (sym (tested i) ∙ not-false _ o.if1.false))
 
 set-requires : tie.Need-set-requires
 set-requires c κs = search rules
@@ -94,8 +94,8 @@ returns-4 c =
     let w = t.before.before in
     let s = w.before.before.before.before.before.before in
     let a = s.args in
-    let y = to_z-of_z w32 a.epoch_year_lem s.ranges.epoch_year_lem in
-    ap (written Verdict.Accepted) (rw y at p.set.ensures) ∙ all_written a.entries a.epoch_year_lem (lists_of a.g.now a.h.now a.g_dot.now a.h_dot.now) a.bytes.now w.check_caps.result w.check_caps.ensures.0 t.enum_told.given.1 _ (tested i) o.if1.false _ m.stored-length.ensures e.if2.false
+    let y = to_z-of_z w32 a.epoch_year s.ranges.epoch_year in
+    ap (written Verdict.Accepted) (rw y at p.set.ensures) ∙ all_written a.entries a.epoch_year (lists_of a.g.now a.h.now a.g_dot.now a.h_dot.now) a.bytes.now w.check_caps.result w.check_caps.ensures.0 t.enum_told.given.1 _ (tested i) o.if1.false _ m.stored-length.ensures e.if2.false
 
 pub write_by_spec : {M : Type 1} → statement M
 write_by_spec =

@@ -22,7 +22,7 @@ returns : tie.Need-returns
 returns c =
     let w = c.before.before.before in
     let a = w.before.before.before.before.before.before.args in
-    (bad_lists a.epoch_year_lem (lists_of a.g.now a.h.now a.g_dot.now a.h_dot.now) a.bytes.now w.check_lengths.result w.check_lengths.ensures.0 c.before.k.given.0.0 c.before.k.given.1, (refl, refl, refl, refl))
+    (bad_lists a.epoch_year (lists_of a.g.now a.h.now a.g_dot.now a.h_dot.now) a.bytes.now w.check_lengths.result w.check_lengths.ensures.0 c.before.k.given.0.0 c.before.k.given.1, (refl, refl, refl, refl))
 
 enum_told : tie.Need-enum-told
 enum_told c = search rules
@@ -45,8 +45,8 @@ returns-2 c =
     let w = t.before.before in
     let s = w.before.before.before.before.before.before in
     let a = s.args in
-    let y = to_z-of_z w32 a.epoch_year_lem s.ranges.epoch_year_lem in
-    ((rw y at p.write-by.ensures) ∙ good_lists a.epoch_year_lem (lists_of a.g.now a.h.now a.g_dot.now a.h_dot.now) a.bytes.now w.check_lengths.result w.check_lengths.ensures.0 t.enum_told.given.1, (refl, refl, refl, refl))
+    let y = to_z-of_z w32 a.epoch_year s.ranges.epoch_year in
+    ((rw y at p.write-by.ensures) ∙ good_lists a.epoch_year (lists_of a.g.now a.h.now a.g_dot.now a.h_dot.now) a.bytes.now w.check_lengths.result w.check_lengths.ensures.0 t.enum_told.given.1, (refl, refl, refl, refl))
 
 pub write_either_spec : {M : Type 1} → statement M
 write_either_spec =

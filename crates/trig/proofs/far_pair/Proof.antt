@@ -9,21 +9,18 @@ use Rattle.trig.proofs.far_pair.Tie as tie
 left-requires : tie.Need-left-requires
 left-requires c κs = search rules
 
-near-requires : tie.Need-near-requires
+near-requires : tie.Need-near-p-requires
 near-requires c κs = search rules
 
-far-sine-requires : tie.Need-far-sine-requires
-far-sine-requires c κs = search rules
+far_sine-requires : tie.Need-far_sine-requires
+far_sine-requires c κs = search rules
 
-far-cosine-requires : tie.Need-far-cosine-requires
-far-cosine-requires c κs = search rules
+far_cosine-requires : tie.Need-far_cosine-requires
+far_cosine-requires c κs = search rules
 
 returns : tie.Need-returns
 returns c =
-    let s = c.before in
-    let n = s.before in
-    let l = n.before in
-    far_is l.before.args.y n.near.result s.far-sine.result c.far-cosine.result (n.near.ensures ∙ ap near_pair l.left.ensures.0) s.far-sine.ensures c.far-cosine.ensures
+    far_is c.args.y c.near-p.result c.far_sine.result c.far_cosine.result (c.near-p.ensures ∙ ap near_pair c.left.ensures.0) c.far_sine.ensures c.far_cosine.ensures
 
 pub far_pair_spec : {M : Type 1} → statement M
-far_pair_spec = tie.close (tie.spec left-requires near-requires far-sine-requires far-cosine-requires returns)
+far_pair_spec = tie.close (tie.spec left-requires near-requires far_sine-requires far_cosine-requires returns)

@@ -5,20 +5,20 @@ use borrow.Author.Rules.{rules}
 use Rattle.trig.proofs.left.Statement.{statement}
 use Rattle.trig.proofs.left.Tie as tie
 
-returns : tie.Need-returns
-returns c = (left_90 c.before.args.y c.if1.true, omega arith)
+returns : tie.Need-returns-then-y-le23592960
+returns c = (left_90 c.args.y c.if-y-le23592960.true, omega arith)
 
-sub-result : tie.Need-overflow-sub-result
+sub-result : tie.Need-overflow_sub-result-then-y-le35389440
 sub-result c = search rules
 
-returns-2 : tie.Need-returns-2
-returns-2 c = (left_135 c.before.before.args.y c.before.if1.false c.if2.true, omega arith)
+returns-2 : tie.Need-returns-then-y-le35389440
+returns-2 c = (left_135 c.args.y c.if-y-le23592960.false c.if-y-le35389440.true, omega arith)
 
-sub-result-2 : tie.Need-overflow-sub-result-2
+sub-result-2 : tie.Need-overflow_sub-result-2
 sub-result-2 c = search rules
 
-returns-3 : tie.Need-returns-3
-returns-3 c = (left_180 c.before.before.args.y c.before.if1.false c.if2.false, omega arith)
+returns-3 : tie.Need-returns
+returns-3 c = (left_180 c.args.y c.if-y-le23592960.false c.if-y-le35389440.false, omega arith)
 
 pub left_spec : {M : Type 1} → statement M
 left_spec = tie.close (tie.spec returns sub-result returns-2 sub-result-2 returns-3)

@@ -9,65 +9,48 @@ use borrow.Author.Rules.{rules}
 use Rattle.trig.proofs.pair_of.Statement.{statement}
 use Rattle.trig.proofs.pair_of.Tie as tie
 
-cast-small-pair : tie.Need-overflow-cast-small-pair
-cast-small-pair c = search rules
+cast-small_pair : tie.Need-overflow_cast-t
+cast-small_pair c = search rules
 
-small-pair-requires : tie.Need-small-pair-requires
-small-pair-requires c κs = (omega arith, (le_trans {m = 8388608} (omega arith) (lit≤ tt), lit≤ tt))
+small_pair-requires : tie.Need-small_pair-requires
+small_pair-requires c κs = (omega arith, (le_trans {m = 8388608} (omega arith) (lit≤ tt), lit≤ tt))
 
-returns : tie.Need-returns
-returns c = of_tiny c.before.before.args.b c.small-pair.result c.before.if1.true c.small-pair.ensures
+returns : tie.Need-returns-then-e-eq0
+returns c = of_tiny c.args.b c.small_pair.result c.if-e-eq0.true c.small_pair.ensures
 
-add-w : tie.Need-overflow-add-w
+add-w : tie.Need-overflow_add-w
 add-w c = search rules
 
-cast-w : tie.Need-overflow-cast-w
+cast-w : tie.Need-overflow_cast-w
 cast-w c = search rules
 
-sub-k : tie.Need-overflow-sub-k
+sub-k : tie.Need-overflow_sub-k
 sub-k c = search rules
 
-cast-k : tie.Need-overflow-cast-k
+cast-k : tie.Need-overflow_cast-k
 cast-k c = search rules
 
-small-pair-requires-2 : tie.Need-small-pair-requires-2
-small-pair-requires-2 c κs = (omega arith, (normal_most c.before.before.args.b c.if2.true, omega arith))
+small_pair-requires-2 : tie.Need-small_pair-requires-then-b-le1110704128
+small_pair-requires-2 c κs = (omega arith, (normal_most c.args.b c.if-b-le1110704128.true, omega arith))
 
-returns-2 : tie.Need-returns-2
-returns-2 c = of_small c.before.before.before.args.b c.small-pair2.result c.before.before.if1.false c.before.if2.true c.small-pair2.ensures
+returns-2 : tie.Need-returns-then-b-le1110704128
+returns-2 c = of_small c.args.b c.small_pair-then-b-le1110704128.result c.if-e-eq0.false c.if-b-le1110704128.true c.small_pair-then-b-le1110704128.ensures
 
-sub-shifted : tie.Need-overflow-sub-shifted
+sub-shifted : tie.Need-overflow_sub-e
 sub-shifted c = search rules
 
 shifted-requires : tie.Need-shifted-requires
 shifted-requires c κs = search rules
 
-far-pair-requires : tie.Need-far-pair-requires
-far-pair-requires c κs =
-    let d = c.before in
-    let s = d.before.before in
-    y_range s.args.b c.shifted.result d.if2.false s.requires c.shifted.ensures
+far_pair-requires : tie.Need-far_pair-requires
+far_pair-requires c κs =
+    y_range c.args.b c.shifted.result c.if-b-le1110704128.false c.requires c.shifted.ensures
 
-returns-3 : tie.Need-returns-3
+returns-3 : tie.Need-returns
 returns-3 c =
-    let t = c.before in
-    let d = t.before in
-    of_far d.before.before.args.b t.shifted.result c.far-pair.result d.if2.false t.shifted.ensures c.far-pair.ensures
+    of_far c.args.b c.shifted.result c.far_pair.result c.if-b-le1110704128.false c.shifted.ensures c.far_pair.ensures
 
 pub pair_of_spec : {M : Type 1} → statement M
 pair_of_spec =
     tie.close
-    (tie.spec
-    cast-small-pair
-    small-pair-requires
-    returns
-    add-w
-    cast-w
-    sub-k
-    cast-k
-    small-pair-requires-2
-    returns-2
-    sub-shifted
-    shifted-requires
-    far-pair-requires
-    returns-3)
+    (tie.spec cast-small_pair small_pair-requires returns add-w cast-w sub-k cast-k small_pair-requires-2 returns-2 sub-shifted shifted-requires far_pair-requires returns-3)

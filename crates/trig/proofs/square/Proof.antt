@@ -8,25 +8,25 @@ use borrow.Author.Rules.{rules}
 use Rattle.trig.proofs.square.Statement.{statement}
 use Rattle.trig.proofs.square.Tie as tie
 
-returns : tie.Need-returns
-returns c = (square_zero c.before.args.m c.before.args.k c.before.requires.0 c.if1.true, omega arith)
+returns : tie.Need-returns-then-k-ge30
+returns c = (square_zero c.args.m c.args.k c.requires.0 c.if-k-ge30.true, omega arith)
 
-mul-a : tie.Need-overflow-mul-a
+mul-a : tie.Need-overflow_mul-a
 mul-a c = search rules
 
-shr-a : tie.Need-overflow-shr-a
+shr-a : tie.Need-overflow_shr-a
 shr-a c = search rules
 
 most : (c : tie.Start) → c.args.m * 64 / 2 ^ c.args.k ≤ 754974720
 most c = angle_most c.args.m c.args.k c.requires.1
 
-mul-result : tie.Need-overflow-mul-result
+mul-result : tie.Need-overflow_mul-result
 mul-result c = omega (arith, square_fits _ (most c.before))
 
-mul-result-2 : tie.Need-overflow-mul-result-2
+mul-result-2 : tie.Need-overflow_mul-result-2
 mul-result-2 c = omega (arith, square_fits _ (most c.before))
 
-returns-2 : tie.Need-returns-2
+returns-2 : tie.Need-returns
 unfolding square_of
 returns-2 c = (refl, omega (arith, square_fits _ (most c.before)))
 

@@ -5,13 +5,13 @@ use borrow.Author.Rules.{rules}
 use Rattle.trig.proofs.step.Statement.{statement}
 use Rattle.trig.proofs.step.Tie as tie
 
-div-result : tie.Need-nonzero-div-result
+div-result : tie.Need-nonzero_div-result
 div-result c = search rules
 
-mul-result : tie.Need-overflow-mul-result
+mul-result : tie.Need-overflow_mul-result
 mul-result c = omega (arith, step_fits c.args.z c.args.h c.args.n c.requires.0 c.requires.1.0)
 
-sub-result : tie.Need-overflow-sub-result
+sub-result : tie.Need-overflow_sub-result
 sub-result c = omega (arith, step_cut c.args.z c.args.h c.args.n c.requires.0 c.requires.1.0)
 
 returns : tie.Need-returns

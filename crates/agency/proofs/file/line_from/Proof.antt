@@ -22,14 +22,14 @@ add-t5 : tie.Need-overflow-add-t5
 add-t5 c =
     let f = c.before in
     let a = f.before.before.before.args in
-    let w = line_within a.text.now a.at (search rules) _ f.first_line_lem.ensures.0 in
+    let w = line_within a.text.now a.at (search rules) _ f.first_line.ensures.0 in
     search rules
 
 add-t8 : tie.Need-overflow-add-t8
 add-t8 c =
     let f = c.before.before in
     let a = f.before.before.before.args in
-    let w = next_within a.text.now a.at (search rules) _ f.first_line_lem.ensures.0 in
+    let w = next_within a.text.now a.at (search rules) _ f.first_line.ensures.0 in
     search rules
 
 returns : tie.Need-returns
@@ -37,7 +37,7 @@ returns c =
     let f = c.before.before in
     let a = f.before.before.before.args in
     let h : a.at < length a.text.now = search rules in
-    let e = f.first_line_lem.ensures.0 in
+    let e = f.first_line.ensures.0 in
     let s = a.text.now in
     (line_first s a.at h _ e, (search rules, line_within s a.at h _ e, line_order s a.at h _ e, next_within s a.at h _ e))
 

@@ -32,7 +32,7 @@ degree-of-requires c κs = search rules
 
 loop-holds : tie.Need-loop-init invariant-loop decreases-loop
 unfolding power total x_sum y_sum z_sum inputs placed bounds
-loop-holds c = (search rules, c.degree_of_lem.ensures, rw c.before.abs.ensures, rw abs_zero)
+loop-holds c = (search rules, c.degree_of.ensures, rw c.before.abs.ensures, rw abs_zero)
 
 add_row : tie.Need-overflow-add-row invariant-loop decreases-loop
 add_row c = search rules

@@ -62,7 +62,7 @@ returns c =
     let w1 = t.before in
     let w0 = w1.before in
     let u1 = w0.before in
-    pole_degree_is _ _ _ _ _ _ _ _ _ _ u1.before.pole-sin-cos.ensures u1.pole-sin-cos2.ensures w0.parts_at.ensures w1.parts-at2.ensures (b.abs.ensures ∙ ap abs (s_place _ _ _ _ t.schmidt_table_lem.ensures i.legendre-index.ensures)) (k.quotient-of.ensures _ refl) d.degree-part.ensures
+    pole_degree_is _ _ _ _ _ _ _ _ _ _ u1.before.pole-sin-cos.ensures u1.pole-sin-cos2.ensures w0.parts_at.ensures w1.parts-at2.ensures (b.abs.ensures ∙ ap abs (s_place _ _ _ _ t.schmidt_table.ensures i.legendre-index.ensures)) (k.quotient-of.ensures _ refl) d.degree-part.ensures
 
 pub pole_part_spec : {M : Type 1} → statement M
 pole_part_spec =

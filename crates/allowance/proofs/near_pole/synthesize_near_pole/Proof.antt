@@ -31,7 +31,7 @@ degree-of-requires c κs = search rules
 
 loop-holds : tie.Need-loop-init invariant-loop decreases-loop
 unfolding power total pole_x pole_y pole_z inputs placed bounds
-loop-holds c = (search rules, c.degree_of_lem.ensures, rw c.before.abs.ensures, rw abs_zero)
+loop-holds c = (search rules, c.degree_of.ensures, rw c.before.abs.ensures, rw abs_zero)
 
 pole-part-requires : tie.Need-pole-part-requires invariant-loop decreases-loop
 pole-part-requires c κs =

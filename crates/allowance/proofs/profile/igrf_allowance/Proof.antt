@@ -19,7 +19,7 @@ use Rattle.allowance.proofs.profile.igrf_allowance.Tie as tie
 abbrev asks : tie.Start → Profile
 asks s =
     let a = s.args in
-    profile (asked a.height a.latitude.sin a.latitude.cos a.longitude.sin a.longitude.cos a.epoch_year_lem a.g.now a.h.now a.g_dot.now a.h_dot.now) a.second-epoch-year a.second_g.now a.second_h.now
+    profile (asked a.height a.latitude.sin a.latitude.cos a.longitude.sin a.longitude.cos a.epoch_year a.g.now a.h.now a.g_dot.now a.h_dot.now) a.second-epoch-year a.second_g.now a.second_h.now
 
 abbrev begun : tie.After-igrf → tie.Start
 begun c = c.before.before.before.before.before.before.before
@@ -33,7 +33,7 @@ day s = s.args.day.day_of_year
 igrf_said : (c : tie.After-igrf) → igrfs.said c.igrf.result ≡ igrf_says (asks (begun c)) (year (begun c)) (day (begun c))
 igrf_said c =
     let s = begun c in
-    rw (to_z-of_z w32 s.args.epoch_year_lem s.fits.epoch_year_lem, to_z-of_z w32 s.args.second-epoch-year s.fits.second-epoch-year) at c.igrf.ensures.0
+    rw (to_z-of_z w32 s.args.epoch_year s.fits.epoch_year, to_z-of_z w32 s.args.second-epoch-year s.fits.second-epoch-year) at c.igrf.ensures.0
 
 igrf-requires : tie.Need-igrf-requires
 igrf-requires c κs = search rules
@@ -111,7 +111,7 @@ returns-3 c =
     let d = here t in
     let s = start d in
     let e = x.e.given in
-    let w = allowances_shown (asks s) (year s) (day s) (shown d) (answer d) e.0.0 (sym (ap epochs.said e.1) ∙ day_said d) _ (early_is t) _ (c.allowance-on.ensures s.args.epoch_year_lem e.0.0 refl) in
+    let w = allowances_shown (asks s) (year s) (day s) (shown d) (answer d) e.0.0 (sym (ap epochs.said e.1) ∙ day_said d) _ (early_is t) _ (c.allowance-on.ensures s.args.epoch_year e.0.0 refl) in
     (w, (answer_covers _ _ _ _ w, (refl, refl, refl, refl, refl, refl)))
 
 pub igrf_allowance_spec : {M : Type 1} → statement M

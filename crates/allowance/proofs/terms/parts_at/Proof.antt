@@ -95,7 +95,7 @@ returns c =
     let t = b.before in
     let i = t.before in
     let s = i.before.before.before.before.before in
-    parts_are _ _ _ _ _ _ _ _ _ _ _ _ _ s.requires.0 s.requires.1 s.requires.2 (ap (λ (x : ℕ). x - 1) i.legendre-index.ensures.0) s.requires.3 (b.abs.ensures ∙ ap abs (s_place _ _ _ _ t.schmidt_table_lem.ensures i.legendre-index.ensures)) g.coeff-at-t.ensures h.coeff-at-t2.ensures (r.p-dp.ensures _ refl refl)
+    parts_are _ _ _ _ _ _ _ _ _ _ _ _ _ s.requires.0 s.requires.1 s.requires.2 (ap (λ (x : ℕ). x - 1) i.legendre-index.ensures.0) s.requires.3 (b.abs.ensures ∙ ap abs (s_place _ _ _ _ t.schmidt_table.ensures i.legendre-index.ensures)) g.coeff-at-t.ensures h.coeff-at-t2.ensures (r.p-dp.ensures _ refl refl)
 
 pub parts_at_spec : {M : Type 1} → statement M
 parts_at_spec =

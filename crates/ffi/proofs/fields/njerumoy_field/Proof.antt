@@ -11,10 +11,10 @@ use Rattle.ffi.proofs.fields.njerumoy_field.Tie as tie
 abbrev start : tie.After-field → tie.Start
 start c = c.before.before.before.before.before
 
-says : (c : tie.After-field) → said c.field.result ≡ field_says (asked (start c).args.height (start c).args.sin_phi (start c).args.cos_phi (start c).args.sin_lambda (start c).args.cos_lambda (start c).args.epoch_year_lem (start c).args.g.now (start c).args.h.now (start c).args.g_dot.now (start c).args.h_dot.now) (start c).args.year (start c).args.day-of-year
+says : (c : tie.After-field) → said c.field.result ≡ field_says (asked (start c).args.height (start c).args.sin_phi (start c).args.cos_phi (start c).args.sin_lambda (start c).args.cos_lambda (start c).args.epoch_year (start c).args.g.now (start c).args.h.now (start c).args.g_dot.now (start c).args.h_dot.now) (start c).args.year (start c).args.day-of-year
 says c =
     let s = start c in
-    rw (to_z-of_z w32 s.args.year s.fits.year, to_z-of_z w32 s.args.day-of-year s.fits.day-of-year, to_z-of_z w32 s.args.epoch_year_lem s.fits.epoch_year_lem) at c.field.ensures.0
+    rw (to_z-of_z w32 s.args.year s.fits.year, to_z-of_z w32 s.args.day-of-year s.fits.day-of-year, to_z-of_z w32 s.args.epoch_year s.fits.epoch_year) at c.field.ensures.0
 
 field-requires : tie.Need-field-requires
 field-requires c κs = search rules

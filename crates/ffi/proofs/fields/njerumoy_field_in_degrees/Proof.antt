@@ -12,10 +12,10 @@ use Rattle.ffi.proofs.fields.njerumoy_field_in_degrees.Tie as tie
 abbrev start : tie.After-field-in-degrees → tie.Start
 start c = c.before.before.before.before.before
 
-says : (c : tie.After-field-in-degrees) → said c.field_in_degrees.result ≡ degrees_says (place (start c).args.height (start c).args.latitude-deg (start c).args.longitude-deg (start c).args.epoch_year_lem (start c).args.g.now (start c).args.h.now (start c).args.g_dot.now (start c).args.h_dot.now) (start c).args.year (start c).args.day-of-year
+says : (c : tie.After-field-in-degrees) → said c.field_in_degrees.result ≡ degrees_says (place (start c).args.height (start c).args.latitude-deg (start c).args.longitude-deg (start c).args.epoch_year (start c).args.g.now (start c).args.h.now (start c).args.g_dot.now (start c).args.h_dot.now) (start c).args.year (start c).args.day-of-year
 says c =
     let s = start c in
-    rw (to_z-of_z w32 s.args.year s.fits.year, to_z-of_z w32 s.args.day-of-year s.fits.day-of-year, to_z-of_z w32 s.args.epoch_year_lem s.fits.epoch_year_lem) at c.field_in_degrees.ensures.0
+    rw (to_z-of_z w32 s.args.year s.fits.year, to_z-of_z w32 s.args.day-of-year s.fits.day-of-year, to_z-of_z w32 s.args.epoch_year s.fits.epoch_year) at c.field_in_degrees.ensures.0
 
 field-in-degrees-requires : tie.Need-field-in-degrees-requires
 field-in-degrees-requires c κs = search rules

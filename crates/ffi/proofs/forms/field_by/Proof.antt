@@ -55,7 +55,7 @@ same-length-8 c = search rules
 returns-2 : tie.Need-returns-2
 returns-2 c =
     let t = c.before.before.before.before.before in
-    let y = t.before.epoch_year_lem.given in
+    let y = t.before.epoch_year.given in
     let w = t.before.before.before.before.before.before.before.before.before.before.before in
     let s = w.before.before.before.before.before.before.before.before.before.before in
     let a = s.args in

@@ -11,8 +11,8 @@ use Rattle.ffi.proofs.listed.told_uncertainty.Tie as tie
 made : (c : tie.After-bare-record) → c.bare_record.result ≡ bare c.before.args.x c.before.args.y c.before.args.z
 made c = c.bare_record.ensures
 
-says : (c : tie.After-uncertainty-with) → strength_said c.uncertainty_with_lem.result ≡ uncertainty_with (error_said c.before.before.args.figures) (bare c.before.before.args.x c.before.before.args.y c.before.before.args.z)
-says c = c.uncertainty_with_lem.ensures ∙ ap (λ (v : GeomagneticField). uncertainty_with (error_said c.before.before.args.figures) v) (made c.before)
+says : (c : tie.After-uncertainty-with) → strength_said c.uncertainty_with.result ≡ uncertainty_with (error_said c.before.before.args.figures) (bare c.before.before.args.x c.before.before.args.y c.before.before.args.z)
+says c = c.uncertainty_with.ensures ∙ ap (λ (v : GeomagneticField). uncertainty_with (error_said c.before.before.args.figures) v) (made c.before)
 
 bare-record-requires : tie.Need-bare-record-requires
 bare-record-requires c κs = search rules

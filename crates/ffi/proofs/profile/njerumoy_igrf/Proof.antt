@@ -20,7 +20,7 @@ start c = c.before.before.before.before.before.before.before
 abbrev question : tie.Start → Profile
 question s =
     let a = s.args in
-    profile (asked a.height a.sin_phi a.cos_phi a.sin_lambda a.cos_lambda a.epoch_year_lem a.g.now a.h.now a.g_dot.now a.h_dot.now) a.second-epoch-year a.second_g.now a.second_h.now
+    profile (asked a.height a.sin_phi a.cos_phi a.sin_lambda a.cos_lambda a.epoch_year a.g.now a.h.now a.g_dot.now a.h_dot.now) a.second-epoch-year a.second_g.now a.second_h.now
 
 abbrev Near : tie.Start → Xyz → Type 0
 Near s v = IgrfClose (question s) (early s.args.year) (epoch_offset s.args.year s.args.day-of-year) v
@@ -28,7 +28,7 @@ Near s v = IgrfClose (question s) (early s.args.year) (epoch_offset s.args.year 
 says : (c : tie.After-igrf) → said c.igrf.result ≡ igrf_says (question (start c)) (start c).args.year (start c).args.day-of-year
 says c =
     let s = start c in
-    rw (to_z-of_z w32 s.args.year s.fits.year, to_z-of_z w32 s.args.day-of-year s.fits.day-of-year, to_z-of_z w32 s.args.epoch_year_lem s.fits.epoch_year_lem, to_z-of_z w32 s.args.second-epoch-year s.fits.second-epoch-year) at c.igrf.ensures.0
+    rw (to_z-of_z w32 s.args.year s.fits.year, to_z-of_z w32 s.args.day-of-year s.fits.day-of-year, to_z-of_z w32 s.args.epoch_year s.fits.epoch_year, to_z-of_z w32 s.args.second-epoch-year s.fits.second-epoch-year) at c.igrf.ensures.0
 
 -- from what is said
 near : (c : tie.After-igrf) (v : Xyz) → c.igrf.result ≡ Answer.Components v → Near (start c) v

@@ -21,7 +21,7 @@ returns : tie.Need-returns
 returns c =
     let u = c.before.before in
     let s = u.before.before in
-    rw (u.declination_uncertainty.ensures ∙ ap (uncertainty_says _) (to_z-of_z w32 s.args.epoch_year_lem s.ranges.epoch_year_lem) ∙ ap (λ (v : GeomagneticField). uncertainty_says v s.args.epoch_year_lem) u.before.bare_record.ensures) at c.tell-strength.ensures
+    rw (u.declination_uncertainty.ensures ∙ ap (uncertainty_says _) (to_z-of_z w32 s.args.epoch_year s.ranges.epoch_year) ∙ ap (λ (v : GeomagneticField). uncertainty_says v s.args.epoch_year) u.before.bare_record.ensures) at c.tell-strength.ensures
 
 pub njerumoy_declination_uncertainty_spec : {M : Type 1} → statement M
 njerumoy_declination_uncertainty_spec =

@@ -61,7 +61,7 @@ returns c =
 returns-2 : tie.Need-returns-2
 returns-2 c =
     let t = c.before.before.before.before.before in
-    let y = t.before.epoch_year_lem.given in
+    let y = t.before.epoch_year.given in
     let w = t.before.before.before.before.before.before.before in
     let s = w.before.before.before.before.before.before.args in
     let e = to_z-of_z w32 y.0.0 (record { sfits = t.known-told2.given.0.1 }) in

@@ -21,7 +21,7 @@ returns : tie.Need-returns
 returns c =
     let w = c.before.before.before.before in
     let s = w.before.before.before.before.before.before.before in
-    let e = rw (to_z-of_z w32 s.args.epoch_year_lem s.ranges.epoch_year_lem) at w.write_either.ensures.0 in
+    let e = rw (to_z-of_z w32 s.args.epoch_year s.ranges.epoch_year) at w.write_either.ensures.0 in
     let f = ap (λ (v : Written). v.found) e in
     let t = c.tell-verdict.ensures in
     ((t.0 ∙ ap verdict_number f, ap (λ (v : Written). v.bytes) e, t.1 ∙ ap (verdict_entry _) f), (refl, refl, refl, refl))

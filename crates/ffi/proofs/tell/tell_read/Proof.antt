@@ -31,7 +31,7 @@ returns c =
     let z = y.answer.given.0.0 in
     let e = sym (ap said y.answer.given.1) in
     let n = to_z-of_z w32 z (record { sfits = c.known-told.given.0.1 }) in
-    (number_answered _ _ e, n ∙ written _ _ e whole y.before.before.args.epoch_year_lem.now, entry_answered _ _ e _, where_answered _ _ e _)
+    (number_answered _ _ e, n ∙ written _ _ e whole y.before.before.args.epoch_year.now, entry_answered _ _ e _, where_answered _ _ e _)
 
 returns-2 : tie.Need-returns-2
 returns-2 c =

@@ -21,7 +21,7 @@ start c = c.before.before.before.before.before.before.before
 abbrev question : tie.Start → Profile
 question s =
     let a = s.args in
-    profile (asked a.height a.sin_phi a.cos_phi a.sin_lambda a.cos_lambda a.epoch_year_lem a.g.now a.h.now a.g_dot.now a.h_dot.now) a.second-epoch-year a.second_g.now a.second_h.now
+    profile (asked a.height a.sin_phi a.cos_phi a.sin_lambda a.cos_lambda a.epoch_year a.g.now a.h.now a.g_dot.now a.h_dot.now) a.second-epoch-year a.second_g.now a.second_h.now
 
 abbrev Promise : tie.Start → YearlyRates → Type 0
 Promise s v = RateClose (question s) (early s.args.year) v.x v.y v.z × AllFinite v
@@ -29,7 +29,7 @@ Promise s v = RateClose (question s) (early s.args.year) v.x v.y v.z × AllFinit
 says : (c : tie.After-igrf-rates) → said c.igrf_rates.result ≡ igrf_rates_says (question (start c)) (start c).args.year (start c).args.day-of-year
 says c =
     let s = start c in
-    rw (to_z-of_z w32 s.args.year s.fits.year, to_z-of_z w32 s.args.day-of-year s.fits.day-of-year, to_z-of_z w32 s.args.epoch_year_lem s.fits.epoch_year_lem, to_z-of_z w32 s.args.second-epoch-year s.fits.second-epoch-year) at c.igrf_rates.ensures.0
+    rw (to_z-of_z w32 s.args.year s.fits.year, to_z-of_z w32 s.args.day-of-year s.fits.day-of-year, to_z-of_z w32 s.args.epoch_year s.fits.epoch_year, to_z-of_z w32 s.args.second-epoch-year s.fits.second-epoch-year) at c.igrf_rates.ensures.0
 
 -- from what is said
 promised : (c : tie.After-igrf-rates) (v : YearlyRates) → c.igrf_rates.result ≡ Answer.Rates v → Promise (start c) v

@@ -12,10 +12,10 @@ use Rattle.ffi.proofs.yearly.njerumoy_rates.Tie as tie
 abbrev start : tie.After-rates → tie.Start
 start c = c.before.before.before.before.before
 
-says : (c : tie.After-rates) → said c.rates.result ≡ rates_says (asked (start c).args.height (start c).args.sin_phi (start c).args.cos_phi (start c).args.sin_lambda (start c).args.cos_lambda (start c).args.epoch_year_lem (start c).args.g.now (start c).args.h.now (start c).args.g_dot.now (start c).args.h_dot.now) (start c).args.year (start c).args.day-of-year
+says : (c : tie.After-rates) → said c.rates.result ≡ rates_says (asked (start c).args.height (start c).args.sin_phi (start c).args.cos_phi (start c).args.sin_lambda (start c).args.cos_lambda (start c).args.epoch_year (start c).args.g.now (start c).args.h.now (start c).args.g_dot.now (start c).args.h_dot.now) (start c).args.year (start c).args.day-of-year
 says c =
     let s = start c in
-    rw (to_z-of_z w32 s.args.year s.fits.year, to_z-of_z w32 s.args.day-of-year s.fits.day-of-year, to_z-of_z w32 s.args.epoch_year_lem s.fits.epoch_year_lem) at c.rates.ensures.0
+    rw (to_z-of_z w32 s.args.year s.fits.year, to_z-of_z w32 s.args.day-of-year s.fits.day-of-year, to_z-of_z w32 s.args.epoch_year s.fits.epoch_year) at c.rates.ensures.0
 
 rates-requires : tie.Need-rates-requires
 rates-requires c κs = search rules

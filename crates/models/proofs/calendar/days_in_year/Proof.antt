@@ -7,18 +7,16 @@ use Rattle.models.specs.Calendar.{leap_year}
 use Rattle.models.proofs.calendar.days_in_year.Statement.{statement}
 use Rattle.models.proofs.calendar.days_in_year.Tie as tie
 
-is-leap-year-requires : tie.Need-is-leap-year-requires
-is-leap-year-requires c κs = search rules
+is_leap_year-requires : tie.Need-is_leap_year-requires
+is_leap_year-requires c κs = search rules
 
-returns : tie.Need-returns
+returns : tie.Need-returns-then-is_leap_year
 returns c =
-    let s = c.before.before in
-    simp (ap leap_year (sym (to_z-of_z w32 s.args.year s.ranges.year)) ∙ sym c.before.is-leap-year.ensures ∙ c.if1.true) refl
+    simp (ap leap_year (sym (to_z-of_z w32 c.args.year c.ranges.year)) ∙ sym c.is_leap_year.ensures ∙ c.if-is_leap_year.true) refl
 
-returns-2 : tie.Need-returns-2
+returns-2 : tie.Need-returns-else-is_leap_year
 returns-2 c =
-    let s = c.before.before in
-    simp (ap leap_year (sym (to_z-of_z w32 s.args.year s.ranges.year)) ∙ sym c.before.is-leap-year.ensures ∙ c.if1.false) refl
+    simp (ap leap_year (sym (to_z-of_z w32 c.args.year c.ranges.year)) ∙ sym c.is_leap_year.ensures ∙ c.if-is_leap_year.false) refl
 
 pub days_in_year_spec : {M : Type 1} → statement M
-days_in_year_spec = tie.close (tie.spec is-leap-year-requires returns returns-2)
+days_in_year_spec = tie.close (tie.spec is_leap_year-requires returns returns-2)

@@ -18,37 +18,35 @@ use Rattle.models.proofs.calendar.is_leap_year.Tie as tie
 fits : (y : ℤ) (d : ℕ) → SFits w32 y → SFits w32 (quot_z (to_z w32 (of_z w32 y)) (pos d))
 fits y d f = rw (to_z-of_z w32 y f) (fits_quot y d f)
 
-rem-if1 : tie.Need-nonzero-rem-if1
+rem-if1 : tie.Need-nonzero_rem-year
 rem-if1 c = (search rules, fits c.args.year 4 c.ranges.year)
 
-rem-if2 : tie.Need-nonzero-rem-if2
-rem-if2 c = (search rules, fits c.before.args.year 100 c.before.ranges.year)
+rem-if2 : tie.Need-nonzero_rem-year-then-year-eq0
+rem-if2 c = (search rules, fits c.args.year 100 c.ranges.year)
 
-rem-result : tie.Need-nonzero-rem-result
-rem-result c = (search rules, fits c.before.before.args.year 400 c.before.before.ranges.year)
+rem-result : tie.Need-nonzero_rem-result
+rem-result c = (search rules, fits c.args.year 400 c.ranges.year)
 
-returns : tie.Need-returns
+returns : tie.Need-returns-then-year-ne0
 unfolding leap_year
 returns c =
-    let s = c.before.before in
-    let b4 = divides_bits s.args.year 4 s.ranges.year in
-    let b100 = divides_bits s.args.year 100 s.ranges.year in
-    let h4 : eqb (of_z w32 (rem_z (to_z w32 (of_z w32 s.args.year)) (pos 4))) 0 ≡ true = eq-eqb _ _ c.before.if1.true in
-    simp (sym b4 ∙ h4, b100, sym b100 ∙ ne_eqb _ _ c.if2.true) refl
+    let b4 = divides_bits c.args.year 4 c.ranges.year in
+    let b100 = divides_bits c.args.year 100 c.ranges.year in
+    let h4 : eqb (of_z w32 (rem_z (to_z w32 (of_z w32 c.args.year)) (pos 4))) 0 ≡ true = eq-eqb _ _ c.if-year-eq0.true in
+    simp (sym b4 ∙ h4, b100, sym b100 ∙ ne_eqb _ _ c.if-year-ne0.true) refl
 
-returns-2 : tie.Need-returns-2
+returns-2 : tie.Need-returns-else-year-ne0
 unfolding leap_year
 returns-2 c =
-    let s = c.before.before in
-    let b4 = divides_bits s.args.year 4 s.ranges.year in
-    let b100 = divides_bits s.args.year 100 s.ranges.year in
-    simp (sym b4 ∙ eq-eqb _ _ c.before.if1.true, sym b100 ∙ eq-eqb _ _ c.if2.false, divides_bits s.args.year 400 s.ranges.year) refl
+    let b4 = divides_bits c.args.year 4 c.ranges.year in
+    let b100 = divides_bits c.args.year 100 c.ranges.year in
+    simp (sym b4 ∙ eq-eqb _ _ c.if-year-eq0.true, sym b100 ∙ eq-eqb _ _ c.if-year-ne0.false, divides_bits c.args.year 400 c.ranges.year) refl
 
-returns-3 : tie.Need-returns-3
+returns-3 : tie.Need-returns-else-year-eq0
 unfolding leap_year
 returns-3 c =
-    let b4 = divides_bits c.before.args.year 4 c.before.ranges.year in
-    simp (b4, sym b4 ∙ ne_eqb _ _ c.if1.false) refl
+    let b4 = divides_bits c.args.year 4 c.ranges.year in
+    simp (b4, sym b4 ∙ ne_eqb _ _ c.if-year-eq0.false) refl
 
 pub is_leap_year_spec : {M : Type 1} → statement M
 is_leap_year_spec = tie.close (tie.spec rem-if1 rem-if2 rem-result returns returns-2 returns-3)

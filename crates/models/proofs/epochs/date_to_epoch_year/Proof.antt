@@ -9,12 +9,12 @@ use Rattle.models.specs.Signed.{fits_quot, fits_epoch}
 use Rattle.models.proofs.epochs.date_to_epoch_year.Statement.{statement}
 use Rattle.models.proofs.epochs.date_to_epoch_year.Tie as tie
 
-div-result : tie.Need-nonzero-div-result
+div-result : tie.Need-nonzero_div-result
 div-result c =
     let y = c.args.year in
     rw (to_z-of_z w32 y c.ranges.year) (search rules, fits_quot y EPOCH_YEARS c.ranges.year)
 
-mul-result : tie.Need-overflow-mul-result
+mul-result : tie.Need-overflow_mul-result
 unfolding epoch_year_of
 mul-result c =
     let y = c.args.year in

@@ -48,7 +48,7 @@ begun c = c.before.before.before.before.before.before.before
 abbrev asks : tie.Start → Profile
 asks s =
     let a = s.args in
-    profile (asked a.height a.latitude.sin a.latitude.cos a.longitude.sin a.longitude.cos a.epoch_year_lem a.g.now a.h.now a.g_dot.now a.h_dot.now) a.second-epoch-year a.second_g.now a.second_h.now
+    profile (asked a.height a.latitude.sin a.latitude.cos a.longitude.sin a.longitude.cos a.epoch_year a.g.now a.h.now a.g_dot.now a.h_dot.now) a.second-epoch-year a.second_g.now a.second_h.now
 
 abbrev year : tie.Start → ℤ
 year s = s.args.day.year
@@ -59,7 +59,7 @@ day s = s.args.day.day_of_year
 igrf_said : (c : tie.After-igrf) → igrfs.said c.igrf.result ≡ igrf_says (asks (begun c)) (year (begun c)) (day (begun c))
 igrf_said c =
     let s = begun c in
-    rw (to_z-of_z w32 s.args.epoch_year_lem s.fits.epoch_year_lem, to_z-of_z w32 s.args.second-epoch-year s.fits.second-epoch-year) at c.igrf.ensures.0
+    rw (to_z-of_z w32 s.args.epoch_year s.fits.epoch_year, to_z-of_z w32 s.args.second-epoch-year s.fits.second-epoch-year) at c.igrf.ensures.0
 
 returns-2 : tie.Need-returns-2
 returns-2 c =
@@ -103,7 +103,7 @@ returns c =
 rates_said : (c : tie.After-igrf-component-rates) → (let s = start c.before.before in igrfs.said c.igrf_component_rates.result ≡ rate_says (asks s) (year s) (day s))
 rates_said c =
     let s = start c.before.before in
-    rw (to_z-of_z w32 s.args.epoch_year_lem s.fits.epoch_year_lem, to_z-of_z w32 s.args.second-epoch-year s.fits.second-epoch-year) at c.igrf_component_rates.ensures.0
+    rw (to_z-of_z w32 s.args.epoch_year s.fits.epoch_year, to_z-of_z w32 s.args.second-epoch-year s.fits.second-epoch-year) at c.igrf_component_rates.ensures.0
 
 returns-3 : tie.Need-returns-3
 returns-3 c =

@@ -55,7 +55,7 @@ returns c =
     let y = w1.before.before.before.before in
     let s = y.before.before.before.before.before.before.before in
     let a = s.args in
-    five_runs a.entries a.epoch_year_lem (lists_of a.g.now a.h.now a.g_dot.now a.h_dot.now) a.bytes.now s.requires.1 _ _ _ _ _ y.year.ensures w1.list.ensures w2.list2.ensures w3.list3.ensures w4.list4.ensures s.requires.0
+    five_runs a.entries a.epoch_year (lists_of a.g.now a.h.now a.g_dot.now a.h_dot.now) a.bytes.now s.requires.1 _ _ _ _ _ y.year.ensures w1.list.ensures w2.list2.ensures w3.list3.ensures w4.list4.ensures s.requires.0
 
 pub set_spec : {M : Type 1} → statement M
 set_spec =

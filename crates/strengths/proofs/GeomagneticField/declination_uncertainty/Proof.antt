@@ -20,7 +20,7 @@ returns : tie.Need-returns
 unfolding uncertainty_says
 returns c =
     let s = c.before.before in
-    c.uncertainty_with_lem.ensures ∙ ap (λ (p : Paper WmmErrorModel). uncertainty_with p s.args.self) (c.before.error_model_by_epoch_year.ensures ∙ ap error_says (to_z-of_z w32 s.args.epoch_year_lem s.ranges.epoch_year_lem))
+    c.uncertainty_with.ensures ∙ ap (λ (p : Paper WmmErrorModel). uncertainty_with p s.args.self) (c.before.error_model_by_epoch_year.ensures ∙ ap error_says (to_z-of_z w32 s.args.epoch_year s.ranges.epoch_year))
 
 pub declination_uncertainty_spec : {M : Type 1} → statement M
 declination_uncertainty_spec =

@@ -137,7 +137,7 @@ loop-again c =
           let ek = e.legendre-index.ensures.0 in
           let ej : a.m + N_MAX - n + n ≡ a.m + N_MAX = omega (arith, hn) in
           degree_on i _ _ _ _ _ _ _ _ _ _ _ _ _ _ n G W z ht hn a.m _ _ _ _ _ _ _ _ _ s.requires.1.1 h.0 s.requires.1.0 ek ej t.0 t.1 b.four-at2.ensures (v.0, v.1, v.2, v.3)
-          _ _ _ _ _ _ _ x.next_k_lem.ensures y.put_four.ensures c.rotate-row-indices.ensures f.four-terms.ensures o.put-four-terms.ensures t.2,
+          _ _ _ _ _ _ _ x.next_k.ensures y.put_four.ensures c.rotate-row-indices.ensures f.four-terms.ensures o.put-four-terms.ensures t.2,
       h.4,
     )
 

@@ -28,7 +28,7 @@ returns c =
     let e = z.args in
     let a : Lent = lent e.cos_theta e.sin_theta e.sin_lambda e.cos_lambda e.ratio e.time-delta e.g.now e.h.now e.g_dot.now e.h_dot.now in
     let h = z.requires.0 in
-    c.all-degrees.ensures (inputs rounded a) refl refl refl (given a _ _ _ h s.schmidt_table_lem.ensures m.sin-cos-m-lambda.ensures)
+    c.all-degrees.ensures (inputs rounded a) refl refl refl (given a _ _ _ h s.schmidt_table.ensures m.sin-cos-m-lambda.ensures)
     ∙ lane_total_lem (inputs rounded a) (plain a z.requires.1 (subst T (sym z.well-formed.1.0.1) tt) (subst T (sym z.well-formed.1.1.0.1) tt)) e.top h.1
 
 pub synthesize_xyz_prime_spec : {M : Type 1} → statement M

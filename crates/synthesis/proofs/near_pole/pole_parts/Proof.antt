@@ -35,7 +35,7 @@ returns : tie.Need-returns
 returns c =
     let v1 = c.before.before.before.before.before.before.before.before.before in
     let a = v1.before.before.args in
-    parts_are a.row a.w0 a.w1 a.s0 a.s1 a.u a.a-over-r-n2 v1.before.term_of_lem.result v1.term-of2.result v1.before.term_of_lem.ensures v1.term-of2.ensures
+    parts_are a.row a.w0 a.w1 a.s0 a.s1 a.u a.a-over-r-n2 v1.before.term_of.result v1.term-of2.result v1.before.term_of.ensures v1.term-of2.ensures
 
 pub pole_parts_spec : {M : Type 1} → statement M
 pole_parts_spec = tie.close (tie.spec term-of-requires term-of-requires-2 returns)

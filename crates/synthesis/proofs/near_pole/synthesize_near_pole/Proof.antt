@@ -95,7 +95,7 @@ loop-again c =
       search rules,
       k.legendre_k.ensures ∙ g.0,
       c.legendre-k2.ensures ∙ g.1,
-      next_degree _ _ l.loop.n _ _ _ _ _ _ _ _ _ v.0 h ht x.legendre-index.ensures.0 t.schmidt_table_lem.ensures v.4
+      next_degree _ _ l.loop.n _ _ _ _ _ _ _ _ _ v.0 h ht x.legendre-index.ensures.0 t.schmidt_table.ensures v.4
           (rw (v.2, v.3) at r.pole-row.ensures) d.pole-degree.ensures u.add-pole-degree.ensures,
       v.5,
     )

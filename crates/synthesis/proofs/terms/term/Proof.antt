@@ -37,7 +37,7 @@ term-of-requires : tie.Need-term-of-requires
 term-of-requires c κs = search rules
 
 returns : tie.Need-returns
-returns c = rw c.before.before.before.before.before.coeffs-at.ensures at c.term_of_lem.ensures
+returns c = rw c.before.before.before.before.before.coeffs-at.ensures at c.term_of.ensures
 
 pub term_spec : {M : Type 1} → statement M
 term_spec =

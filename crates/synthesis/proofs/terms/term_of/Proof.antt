@@ -2,8 +2,8 @@
 use mathlib.Core.Path.{refl}
 use Rattle.sums.specs.Arithmetic.{rounded}
 use Rattle.synthesis.specs.Code.{term_of}
-use Rattle.synthesis.proofs.terms.term_of_lem.Statement.{statement}
-use Rattle.synthesis.proofs.terms.term_of_lem.Tie as tie
+use Rattle.synthesis.proofs.terms.term_of.Statement.{statement}
+use Rattle.synthesis.proofs.terms.term_of.Tie as tie
 
 returns : tie.Need-returns
 unfolding term_of rounded
