@@ -14,64 +14,48 @@ use borrow.Author.Rules.{rules}
 use Rattle.agency.proofs.checked.Statement.{statement}
 use Rattle.agency.proofs.checked.Tie as tie
 
-set-requires : tie.Need-set-requires
+set-requires : tie.Need-set-answer-requires
 set-requires c κs = search rules
 
-enum-known-answer : tie.Need-enum-known-answer
-enum-known-answer c = search rules
+enum_known-answer : tie.Need-enum_known-answer
+enum_known-answer c = search rules
 
-enum_told : tie.Need-enum-told
+enum_told : tie.Need-enum_told-1
 enum_told c = search rules
 
 -- what the file is, once its case is known
 told : (s : List ℕ) (l : Lists) (r : ReadAnswer) {t : ReadAnswer} → Filled (file_says (lines s)) (said r) l → r ≡ t → Filled (file_says (lines s)) (said t) l
 told s l r f e = subst (λ (v : ReadAnswer). Filled (file_says (lines s)) (said v) l) e f
 
-returns : tie.Need-returns
+returns : tie.Need-returns-in_default
 returns c =
-    let w = c.before.before in
-    let s = w.before.before.before.before.before.before.args.text.now in
-    let l = lists_of w.set.new.1.0 w.set.new.1.1.0 w.set.new.1.1.1.0 w.set.new.1.1.1.1.0 in
-    (w.set.ensures.0, subst (λ (r : ReadAnswer). Filled (cof_says s) (said r) l) (sym c.enum_told.given.1) (unread s l c.enum_told.given.0.0 (told s l _ w.set.ensures.1 c.enum_told.given.1)))
+    let s = c.args.text.now in
+    let l = lists_of c.set-answer.new.1.0 c.set-answer.new.1.1.0 c.set-answer.new.1.1.1.0 c.set-answer.new.1.1.1.1.0 in
+    (c.set-answer.ensures.0, subst (λ (r : ReadAnswer). Filled (cof_says s) (said r) l) (sym c.in_default.is) (unread s l c.in_default.field-0 (told s l _ c.set-answer.ensures.1 c.in_default.is)))
 
-check-caps-requires : tie.Need-check-caps-requires
-check-caps-requires c κs = search rules
+check_caps-requires : tie.Need-check_caps-requires
+check_caps-requires c κs = search rules
 
-enum-told-2 : tie.Need-enum-told-2
-enum-told-2 c = search rules
+enum_told-2 : tie.Need-enum_told-in-Accepted
+enum_told-2 c = search rules
 
-enum-known-k : tie.Need-enum-known-k
-enum-known-k c = search rules
+enum_known-k : tie.Need-enum_known-k
+enum_known-k c = search rules
 
-returns-2 : tie.Need-returns-2
+returns-2 : tie.Need-returns-in-Accepted
 returns-2 c =
-    let v = c.before.before in
-    let t = v.before.before.before.before.before.before.before.before.before in
-    let w = t.before.before.before in
-    let s = w.before.before.before.before.before.before.args.text.now in
-    let e = to_z-of_z w32 t.before.answer.given.0.0 (record { sfits = t.known-told.given.0.1 }) in
-    let l = lists_of w.set.new.1.0 w.set.new.1.1.0 w.set.new.1.1.1.0 w.set.new.1.1.1.1.0 in
-    (w.set.ensures.0, rw e (within_caps s l _ (told s l _ w.set.ensures.1 t.before.answer.given.1) _ v.check_caps.ensures.0 c.enum-told2.given.1))
+    let s = c.args.text.now in
+    let e = to_z-of_z w32 c.in-Epoch.year (record { sfits = c.in-Epoch.known_told-1-own.given.0.1 }) in
+    let l = lists_of c.set-answer.new.1.0 c.set-answer.new.1.1.0 c.set-answer.new.1.1.1.0 c.set-answer.new.1.1.1.1.0 in
+    (c.set-answer.ensures.0, rw e (within_caps s l _ (told s l _ c.set-answer.ensures.1 c.in-Epoch.is) _ c.check_caps.ensures.0 c.in-Accepted.is))
 
-returns-3 : tie.Need-returns-3
+returns-3 : tie.Need-returns-in-Refused
 returns-3 c =
-    let v = c.before.before.before in
-    let t = v.before.before.before.before.before.before.before.before.before in
-    let w = t.before.before.before in
-    let s = w.before.before.before.before.before.before.args.text.now in
-    let l = lists_of w.set.new.1.0 w.set.new.1.1.0 w.set.new.1.1.1.0 w.set.new.1.1.1.1.0 in
-    (w.set.ensures.0, over_cap s l _ (told s l _ w.set.ensures.1 t.before.answer.given.1) _ v.check_caps.ensures.0 c.before.k.given.0.0 c.before.k.given.1)
+    let s = c.args.text.now in
+    let l = lists_of c.set-answer.new.1.0 c.set-answer.new.1.1.0 c.set-answer.new.1.1.1.0 c.set-answer.new.1.1.1.1.0 in
+    (c.set-answer.ensures.0, over_cap s l _ (told s l _ c.set-answer.ensures.1 c.in-Epoch.is) _ c.check_caps.ensures.0 c.in-Refused.k c.in-Refused.is)
 
 pub checked_spec : {M : Type 1} → statement M
 checked_spec =
     tie.close
-    (tie.spec
-    set-requires
-    enum-known-answer
-    enum_told
-    returns
-    check-caps-requires
-    enum-told-2
-    enum-known-k
-    returns-2
-    returns-3)
+    (tie.spec set-requires enum_known-answer enum_told returns check_caps-requires enum_told-2 enum_known-k returns-2 returns-3)

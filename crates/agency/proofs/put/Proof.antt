@@ -25,74 +25,59 @@ one_more l m i h k =
     ∙ ap (λ (r : List Float). r ++ drop (suc i) l) (sym (take-suc m i nan k))
     ∙ ap (Put l m) (sym (add-one i))
 
-abbrev invariant-loop : tie.invariant-loop
+abbrev invariant-loop : tie.invariant-loop-i
 invariant-loop list₀ found count i₀ list i =
     (i ≤ count) × (length list ≡ N_COEFF) × (list ≡ Put list₀ found i)
 
-abbrev decreases-loop : tie.decreases-loop
+abbrev decreases-loop : tie.decreases-loop-i
 decreases-loop list₀ found count i₀ list i =
     count - i
 
-loop-holds : tie.Need-loop-init invariant-loop decreases-loop
+loop-holds : tie.Need-loop-i-init invariant-loop decreases-loop
 loop-holds c = (search rules, c.requires.0, refl)
 
-mul-list : tie.Need-overflow-mul-list invariant-loop decreases-loop
+mul-list : tie.Need-offset_bounds-found-i invariant-loop decreases-loop
 mul-list c = search rules
 
-element-copy-out-list : tie.Need-element-copy-out-list invariant-loop decreases-loop
-element-copy-out-list c = let n = c.before.before.requires.1.1 in search rules
+element_copy_out-list : tie.Need-bounds-found-i invariant-loop decreases-loop
+element_copy_out-list c = let n = c.requires.1.1 in search rules
 
-mul-list-2 : tie.Need-overflow-mul-list-2 invariant-loop decreases-loop
+mul-list-2 : tie.Need-offset_bounds-list-i invariant-loop decreases-loop
 mul-list-2 c = search rules
 
-slice-write-list : tie.Need-slice-write-list invariant-loop decreases-loop
-slice-write-list c =
-    let l = c.before.before.loop.invariant.1 in
-    let n = c.before.before.before.requires.1.1 in
+slice_write-list : tie.Need-bounds-list-i invariant-loop decreases-loop
+slice_write-list c =
+    let l = c.loop-i.invariant.1 in
+    let n = c.requires.1.1 in
     search rules
 
-add-i : tie.Need-overflow-add-i invariant-loop decreases-loop
+add-i : tie.Need-overflow_add-i invariant-loop decreases-loop
 add-i c = search rules
 
-loop-less : tie.Need-loop-smaller invariant-loop decreases-loop
+loop-less : tie.Need-loop-i-smaller invariant-loop decreases-loop
 loop-less c = search rules
 
-loop-again : tie.Need-loop-preserved invariant-loop decreases-loop
+loop-again : tie.Need-loop-i-preserved invariant-loop decreases-loop
 loop-again c =
-    let o = c.before.before in
-    let s = o.before in
-    let i = o.loop.i in
-    let n = s.requires.1.1 in
-    let g = s.requires.0 in
-    let f = s.requires.1.0 in (
+    let i = c.loop-i.i in
+    let n = c.requires.1.1 in
+    let g = c.requires.0 in
+    let f = c.requires.1.0 in (
       search rules,
-      length-set o.loop.list i _ ∙ o.loop.invariant.1,
-      ap (λ (l : List Float). set l i (get_or s.args.found.now i nan)) o.loop.invariant.2 ∙ one_more s.args.list.now s.args.found.now i (search rules) (search rules),
+      length-set c.loop-i.list i _ ∙ c.loop-i.invariant.1,
+      ap (λ (l : List Float). set l i (get_or c.args.found.now i nan)) c.loop-i.invariant.2 ∙ one_more c.args.list.now c.args.found.now i (search rules) (search rules),
     )
 
-same_length : tie.Need-same-length invariant-loop decreases-loop
-same_length c = c.before.loop.invariant.1 ∙ sym c.before.before.requires.0
+same_length : tie.Need-shape_of-list invariant-loop decreases-loop
+same_length c = c.loop-i.invariant.1 ∙ sym c.requires.0
 
 returns : tie.Need-returns invariant-loop decreases-loop
 returns c =
-    let o = c.before in
-    let a = o.before.args in
-    let e : o.loop.i ≡ a.count = search rules in
-    o.loop.invariant.2 ∙ ap (Put a.list.now a.found.now) e
+    let a = c.args in
+    let e : c.loop-i.i ≡ a.count = search rules in
+    c.loop-i.invariant.2 ∙ ap (Put a.list.now a.found.now) e
 
 pub put_spec : {M : Type 1} → statement M
 put_spec =
     tie.close
-    (tie.spec
-    invariant-loop
-    decreases-loop
-    loop-holds
-    mul-list
-    element-copy-out-list
-    mul-list-2
-    slice-write-list
-    add-i
-    loop-less
-    loop-again
-    same_length
-    returns)
+    (tie.spec invariant-loop decreases-loop loop-holds mul-list element_copy_out-list mul-list-2 slice_write-list add-i loop-less loop-again same_length returns)

@@ -13,119 +13,89 @@ use Rattle.agency.proofs.read.Statement.{statement}
 use Rattle.agency.proofs.read.Tie as tie
 
 -- the lent lists are ninety long where the code goes on
-ninety_of : (c : tie.Else1) → (let a = c.before.before.before.before.before.before.before.before.before.before.before.args in Ninety (lists_of a.g.now a.h.now a.g_dot.now a.h_dot.now))
+ninety_of : (c : tie.Else-not-lists_long) → (let a = c.args in Ninety (lists_of a.g.now a.h.now a.g_dot.now a.h_dot.now))
 ninety_of c =
-    let a = c.before.before.before.before.before.before.before.before.before.before.before.args in
-    each_long a.g.now a.h.now a.g_dot.now a.h_dot.now (sym c.before.lists_long.ensures.0 ∙ not-false _ c.if1.false)
+    let a = c.args in
+    each_long a.g.now a.h.now a.g_dot.now a.h_dot.now (sym c.lists_long.ensures.0 ∙ not-false _ c.if-not-lists_long.false-raw)
 
-few : (c : tie.At-match-branch) → c.match.count ≤ N_COEFF
-few c = ⊎_elim (λ w. let e = w.2 in omega (arith, e)) (λ w. let e = w.2 in omega (arith, e)) c.match.branch
+few : (c : tie.Joined-answer) → c.in-Epoch.in-Epoch-own.count ≤ N_COEFF
+few c = ⊎_elim (λ w. let e = w.2 in omega (arith, e)) (λ w. let e = w.2 in omega (arith, e)) c.in-Epoch.in-Epoch-own.branch-raw
 
-lists-long-requires : tie.Need-lists-long-requires
-lists-long-requires c κs = search rules
+lists_long-requires : tie.Need-lists_long-requires
+lists_long-requires c κs = search rules
 
-same_length : tie.Need-same-length
+same_length : tie.Need-shape_of-g-then-not-lists_long
 same_length c = search rules
 
-same-length-2 : tie.Need-same-length-2
-same-length-2 c = search rules
+same_length-2 : tie.Need-shape_of-h-then-not-lists_long
+same_length-2 c = search rules
 
-same-length-3 : tie.Need-same-length-3
-same-length-3 c = search rules
+same_length-3 : tie.Need-shape_of-g_dot-then-not-lists_long
+same_length-3 c = search rules
 
-same-length-4 : tie.Need-same-length-4
-same-length-4 c = search rules
+same_length-4 : tie.Need-shape_of-h_dot-then-not-lists_long
+same_length-4 c = search rules
 
-returns : tie.Need-returns
+returns : tie.Need-returns-then-not-lists_long
 returns c =
-    let w = c.before in
-    let a = w.before.before.before.before.before.before.before.before.before.before.args in
-    (not_ninety a.text.now (lists_of a.g.now a.h.now a.g_dot.now a.h_dot.now) _ w.lists_long.ensures.0 c.if1.true, refl)
+    let a = c.args in
+    (not_ninety a.text.now (lists_of a.g.now a.h.now a.g_dot.now a.h_dot.now) _ c.lists_long.ensures.0 c.if-not-lists_long.true-raw, refl)
 
-checked-requires : tie.Need-checked-requires
+checked-requires : tie.Need-checked-answer-requires
 checked-requires c κs = search rules
 
-enum_told : tie.Need-enum-told
+enum_told : tie.Need-enum_told-1
 enum_told c = search rules
 
-enum-told-2 : tie.Need-enum-told-2
-enum-told-2 c = search rules
+enum_told-2 : tie.Need-enum_told-in_default
+enum_told-2 c = search rules
 
 put-requires : tie.Need-put-requires
 put-requires c κs =
-    let m = c.before.before in
-    let w = m.before in
-    ((ninety_of w.before.before.before.before.before).0, (w.checked.ensures.0.0, few m))
+    ((ninety_of c.before.before.before.before.before.before.before.before).0, (c.checked-answer.ensures.0.0, few c.before.before))
 
 put-requires-2 : tie.Need-put-requires-2
 put-requires-2 c κs =
-    let m = c.before.before.before.before.before.before.before in
-    let w = m.before in
-    ((ninety_of w.before.before.before.before.before).1, (w.checked.ensures.0.1, few m))
+    ((ninety_of c.before.before.before.before.before.before.before.before.before.before.before.before.before).1, (c.checked-answer.ensures.0.1, few c.before.before.before.before.before.before.before))
 
 put-requires-3 : tie.Need-put-requires-3
 put-requires-3 c κs =
-    let m = c.before.before.before.before.before.before.before.before.before.before.before.before in
-    let w = m.before in
-    ((ninety_of w.before.before.before.before.before).2, (w.checked.ensures.0.2, few m))
+    ((ninety_of c.before.before.before.before.before.before.before.before.before.before.before.before.before.before.before.before.before.before).2, (c.checked-answer.ensures.0.2, few c.before.before.before.before.before.before.before.before.before.before.before.before))
 
 put-requires-4 : tie.Need-put-requires-4
 put-requires-4 c κs =
-    let m = c.before.before.before.before.before.before.before.before.before.before.before.before.before.before.before.before.before in
-    let w = m.before in
-    ((ninety_of w.before.before.before.before.before).3, (w.checked.ensures.0.3, few m))
+    ((ninety_of c.before.before.before.before.before.before.before.before.before.before.before.before.before.before.before.before.before.before.before.before.before.before.before).3, (c.checked-answer.ensures.0.3, few c.before.before.before.before.before.before.before.before.before.before.before.before.before.before.before.before.before))
 
-same-length-5 : tie.Need-same-length-5
-same-length-5 c = search rules
+same_length-5 : tie.Need-shape_of-g
+same_length-5 c = search rules
 
-same-length-6 : tie.Need-same-length-6
-same-length-6 c = search rules
+same_length-6 : tie.Need-shape_of-h
+same_length-6 c = search rules
 
-same-length-7 : tie.Need-same-length-7
-same-length-7 c = search rules
+same_length-7 : tie.Need-shape_of-g_dot
+same_length-7 c = search rules
 
-same-length-8 : tie.Need-same-length-8
-same-length-8 c = search rules
+same_length-8 : tie.Need-shape_of-h_dot
+same_length-8 c = search rules
 
-returns-2 : tie.Need-returns-2
+returns-2 : tie.Need-returns
 returns-2 c =
-    let m = c.before.before.before.before.before.before.before.before.before.before.before.before.before.before.before.before.before.before.before.before in
-    let w = m.before in
-    let e = w.before.before.before.before.before in
-    let a = e.before.before.before.before.before.before.before.before.before.before.before.args in
+    let a = c.args in
     let s = a.text.now in
     let held = lists_of a.g.now a.h.now a.g_dot.now a.h_dot.now in
-    let l = lists_of w.checked.new.1.0 w.checked.new.1.1.0 w.checked.new.1.1.1.0 w.checked.new.1.1.1.1.0 in
-    let long = e.before.lists_long.ensures.0 in
-    let r = w.checked.result in
-    let f = w.checked.ensures.1 in (
-      copied (said r) _ _ _ _ _ _ _ _ c.before.before.before.before.before.before.before.before.before.before.before.before.before.before.before.before.before.put.ensures c.before.before.before.before.before.before.before.before.before.before.before.before.put2.ensures c.before.before.before.before.before.before.before.put3.ensures c.before.before.put4.ensures
+    let l = lists_of c.checked-answer.new.1.0 c.checked-answer.new.1.1.0 c.checked-answer.new.1.1.1.0 c.checked-answer.new.1.1.1.1.0 in
+    let long = c.lists_long.ensures.0 in
+    let r = c.checked-answer.result in
+    let f = c.checked-answer.ensures.1 in (
+      copied (said r) _ _ _ _ _ _ _ _ c.put.ensures c.put-2.ensures c.put-3.ensures c.put-4.ensures
           ∙ ⊎_elim
-          (λ t. all_put s held _ long e.if1.false l r f m.match.count (ninety_of e) w.checked.ensures.0 t.1.given.0.0 t.1.given.1 t.2)
-          (λ t. nothing_put s held _ long e.if1.false l r f m.match.count t.1.given.0.0 t.1.given.1 t.2)
-          m.match.branch,
+          (λ t. all_put s held _ long c.if-not-lists_long.false-raw l r f c.in-Epoch.in-Epoch-own.count (ninety_of c.before.before.before.before.before.before.before.before.before.before.before.before.before.before.before.before.before.before.before.before.before.before.before.before.before.before) c.checked-answer.ensures.0 t.1.given.0.0 t.1.given.1 t.2)
+          (λ t. nothing_put s held _ long c.if-not-lists_long.false-raw l r f c.in-Epoch.in-Epoch-own.count t.1.given.0.0 t.1.given.1 t.2)
+          c.in-Epoch.in-Epoch-own.branch-raw,
       refl,
     )
 
 pub read_spec : {M : Type 1} → statement M
 read_spec =
     tie.close
-    (tie.spec
-    lists-long-requires
-    same_length
-    same-length-2
-    same-length-3
-    same-length-4
-    returns
-    checked-requires
-    enum_told
-    enum-told-2
-    put-requires
-    put-requires-2
-    put-requires-3
-    put-requires-4
-    same-length-5
-    same-length-6
-    same-length-7
-    same-length-8
-    returns-2)
+    (tie.spec lists_long-requires same_length same_length-2 same_length-3 same_length-4 returns checked-requires enum_told enum_told-2 put-requires put-requires-2 put-requires-3 put-requires-4 same_length-5 same_length-6 same_length-7 same_length-8 returns-2)

@@ -4,53 +4,36 @@ use borrow.Author.Rules.{rules}
 use Rattle.direction.proofs.direction.Statement.{statement}
 use Rattle.direction.proofs.direction.Tie as tie
 
-is-finite-requires : tie.Need-is-finite-requires
-is-finite-requires c κs = search rules
+is_finite-requires : tie.Need-is_finite-requires
+is_finite-requires c κs = search rules
 
-from-bits-requires : tie.Need-from-bits-requires
-from-bits-requires c κs = search rules
+from_bits-requires : tie.Need-from_bits-requires
+from_bits-requires c κs = search rules
 
-returns : tie.Need-returns
+returns : tie.Need-returns-then-not-is_finite
 returns c =
-    let s = c.before.before.before in
-    both s.args.x s.args.y c.from_bits.result s.well-formed.1.0.1 (x_not_finite s.args.x s.args.y c.from_bits.result (no_number c.from_bits.result c.from_bits.ensures) (not_finite s.args.x c.before.before.is_finite.result c.before.before.is_finite.ensures c.before.if1.true))
+    both c.args.x c.args.y c.from_bits.result c.well_formed.1.0.1 (x_not_finite c.args.x c.args.y c.from_bits.result (no_number c.from_bits.result c.from_bits.ensures) (not_finite c.args.x c.is_finite.result c.is_finite.ensures c.if-not-is_finite.true-raw))
 
-is-finite-requires-2 : tie.Need-is-finite-requires-2
-is-finite-requires-2 c κs = search rules
+is_finite-requires-2 : tie.Need-is_finite-requires-2
+is_finite-requires-2 c κs = search rules
 
-from-bits-requires-2 : tie.Need-from-bits-requires-2
-from-bits-requires-2 c κs = search rules
+from_bits-requires-2 : tie.Need-from_bits-requires-then-not-is_finite-2
+from_bits-requires-2 c κs = search rules
 
-returns-2 : tie.Need-returns-2
+returns-2 : tie.Need-returns-then-not-is_finite-2
 returns-2 c =
-    let s = c.before.before.before.before.before in
-    both s.args.x s.args.y c.from-bits2.result s.well-formed.1.0.1 (y_not_finite s.args.x s.args.y c.from-bits2.result (no_number c.from-bits2.result c.from-bits2.ensures) (not_finite s.args.y c.before.before.is-finite2.result c.before.before.is-finite2.ensures c.before.if2.true))
+    both c.args.x c.args.y c.from_bits-then-not-is_finite-2.result c.well_formed.1.0.1 (y_not_finite c.args.x c.args.y c.from_bits-then-not-is_finite-2.result (no_number c.from_bits-then-not-is_finite-2.result c.from_bits-then-not-is_finite-2.ensures) (not_finite c.args.y c.is_finite-2.result c.is_finite-2.ensures c.if-not-is_finite-2.true-raw))
 
 angle-requires : tie.Need-angle-requires
 angle-requires c κs =
-    let b = c.before in
-    let a = b.before in
-    let s = a.before.before in
-    (now_finite s.args.x a.before.is_finite.result a.before.is_finite.ensures a.if1.false, now_finite s.args.y b.is-finite2.result b.is-finite2.ensures c.if2.false)
+    (now_finite c.args.x c.is_finite.result c.is_finite.ensures c.if-not-is_finite.false-raw, now_finite c.args.y c.is_finite-2.result c.is_finite-2.ensures c.if-not-is_finite-2.false-raw)
 
-returns-3 : tie.Need-returns-3
+returns-3 : tie.Need-returns
 returns-3 c =
-    let d = c.before in
-    let b = d.before in
-    let a = b.before in
-    let s = a.before.before in
-    both s.args.x s.args.y c.angle.result s.well-formed.1.0.1
-    (angle_said s.args.x s.args.y c.angle.result (now_finite s.args.x a.before.is_finite.result a.before.is_finite.ensures a.if1.false) (now_finite s.args.y b.is-finite2.result b.is-finite2.ensures d.if2.false) c.angle.ensures)
+    both c.args.x c.args.y c.angle.result c.well_formed.1.0.1
+    (angle_said c.args.x c.args.y c.angle.result (now_finite c.args.x c.is_finite.result c.is_finite.ensures c.if-not-is_finite.false-raw) (now_finite c.args.y c.is_finite-2.result c.is_finite-2.ensures c.if-not-is_finite-2.false-raw) c.angle.ensures)
 
 pub direction_spec : {M : Type 1} → statement M
 direction_spec =
     tie.close
-    (tie.spec
-    is-finite-requires
-    from-bits-requires
-    returns
-    is-finite-requires-2
-    from-bits-requires-2
-    returns-2
-    angle-requires
-    returns-3)
+    (tie.spec is_finite-requires from_bits-requires returns is_finite-requires-2 from_bits-requires-2 returns-2 angle-requires returns-3)

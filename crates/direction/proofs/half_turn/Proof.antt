@@ -4,13 +4,13 @@ use borrow.Author.Rules.{rules}
 use Rattle.direction.proofs.half_turn.Statement.{statement}
 use Rattle.direction.proofs.half_turn.Tie as tie
 
-sub-result : tie.Need-overflow-sub-result
+sub-result : tie.Need-overflow_sub-result
 sub-result c = search rules
 
-returns : tie.Need-returns
-returns c = (rw c.if1.true, omega arith)
+returns : tie.Need-returns-then-left
+returns c = (rw c.if-left.true, omega arith)
 
-returns-2 : tie.Need-returns-2
+returns-2 : tie.Need-returns
 returns-2 c = search rules
 
 pub half_turn_spec : {M : Type 1} → statement M

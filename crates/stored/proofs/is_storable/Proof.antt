@@ -20,14 +20,14 @@ above : (z : ℤ) → lt_z z (pos 0) ≡ false → le_z z (pos 65535) ≡ storab
 above (pos n) e = refl
 above (negsuc n) e = absurd (subst T e tt)
 
-returns : tie.Need-returns
-returns c = let z = c.before.args.epoch_year in below z (rw (to_z-of_z w32 z c.before.ranges.epoch_year) at c.if1.true)
+returns : tie.Need-returns-then-epoch_year-lt0
+returns c = let z = c.args.epoch_year in below z (rw (to_z-of_z w32 z c.ranges.epoch_year) at c.if-epoch_year-lt0.true)
 
-returns-2 : tie.Need-returns-2
+returns-2 : tie.Need-returns
 returns-2 c =
-    let z = c.before.args.epoch_year in
-    let e = to_z-of_z w32 z c.before.ranges.epoch_year in
-    rw e (above z (rw e at c.if1.false))
+    let z = c.args.epoch_year in
+    let e = to_z-of_z w32 z c.ranges.epoch_year in
+    rw e (above z (rw e at c.if-epoch_year-lt0.false))
 
 pub is_storable_spec : {M : Type 1} → statement M
 is_storable_spec = tie.close (tie.spec returns returns-2)

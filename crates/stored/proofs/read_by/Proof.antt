@@ -16,103 +16,78 @@ use Rattle.stored.proofs.take.lists.Reads as lists_reads
 use Rattle.stored.proofs.take.two_at.Reads as two_at_reads
 
 -- where nothing is refused, the bytes are as long as a set
-long_enough : (t : tie.After-enum-told) → (let a = t.before.before.before.before.before.before.before.before.before.before.before.before.before.before.before.before.before.before.before.before.before.before.before.before.args in length a.bytes.now ≡ stored_length a.entries)
+long_enough : (t : tie.In_default) → (let a = t.args in length a.bytes.now ≡ stored_length a.entries)
 long_enough t =
-    let w = t.before.before.before.before.before.before.before.before.before.before in
-    let a = w.before.before.before.before.before.before.before.before.before.before.before.before.before.before.args in
-    taken_long a.entries a.bytes.now (lists_of a.g.now a.h.now a.g_dot.now a.h_dot.now) w.checked.result w.checked.ensures t.enum_told.given.1
+    let a = t.args in
+    taken_long a.entries a.bytes.now (lists_of a.g.now a.h.now a.g_dot.now a.h_dot.now) t.checked.result t.checked.ensures t.in_default.is
 
 checked-requires : tie.Need-checked-requires
 checked-requires c κs = search rules
 
-enum-known-k : tie.Need-enum-known-k
-enum-known-k c = search rules
+enum_known-k : tie.Need-enum_known-k
+enum_known-k c = search rules
 
-same_length : tie.Need-same-length
+same_length : tie.Need-shape_of-own_g-in-Refused
 same_length c = search rules
 
-same-length-2 : tie.Need-same-length-2
-same-length-2 c = search rules
+same_length-2 : tie.Need-shape_of-own_h-in-Refused
+same_length-2 c = search rules
 
-same-length-3 : tie.Need-same-length-3
-same-length-3 c = search rules
+same_length-3 : tie.Need-shape_of-own_g_dot-in-Refused
+same_length-3 c = search rules
 
-same-length-4 : tie.Need-same-length-4
-same-length-4 c = search rules
+same_length-4 : tie.Need-shape_of-own_h_dot-in-Refused
+same_length-4 c = search rules
 
-returns : tie.Need-returns
+returns : tie.Need-returns-in-Refused
 returns c =
-    let w = c.before.before.before.before.before.before.before.before.before.before.before in
-    let a = w.before.before.before.before.before.before.before.before.before.before.before.before.before.before.args in
-    refused_bytes a.entries a.bytes.now (lists_of a.g.now a.h.now a.g_dot.now a.h_dot.now) w.checked.result w.checked.ensures c.before.k.given.0.0 c.before.k.given.1
+    let a = c.args in
+    refused_bytes a.entries a.bytes.now (lists_of a.g.now a.h.now a.g_dot.now a.h_dot.now) c.checked.result c.checked.ensures c.in-Refused.k c.in-Refused.is
 
-enum_told : tie.Need-enum-told
+enum_told : tie.Need-enum_told-1
 enum_told c = search rules
 
 lists-requires : tie.Need-lists-requires
-lists-requires c κs = let t = c.before.before.before.before in (let l = long_enough t in omega (arith, l), t.before.before.before.before.before.before.before.before.before.before.before.before.before.before.before.before.before.before.before.before.before.before.before.before.requires.1.0)
+lists-requires c κs = (let l = long_enough c.before.before.before.before in omega (arith, l), c.requires.1.0)
 
-two-at-requires : tie.Need-two-at-requires
-two-at-requires c κs = let l = long_enough c.before.before.before.before.before.before.before.before.before.before.before.before.before in omega (arith, l)
+two_at-requires : tie.Need-two_at-requires
+two_at-requires c κs = let l = long_enough c.before.before.before.before.before.before.before.before.before.before.before.before.before in omega (arith, l)
 
-cast-t31 : tie.Need-overflow-cast-t31
+cast-t31 : tie.Need-overflow_cast-result
 cast-t31 c = search rules
 
-same-length-5 : tie.Need-same-length-5
-same-length-5 c = search rules
+same_length-5 : tie.Need-shape_of-g
+same_length-5 c = search rules
 
-same-length-6 : tie.Need-same-length-6
-same-length-6 c = search rules
+same_length-6 : tie.Need-shape_of-h
+same_length-6 c = search rules
 
-same-length-7 : tie.Need-same-length-7
-same-length-7 c = search rules
+same_length-7 : tie.Need-shape_of-g_dot
+same_length-7 c = search rules
 
-same-length-8 : tie.Need-same-length-8
-same-length-8 c = search rules
+same_length-8 : tie.Need-shape_of-h_dot
+same_length-8 c = search rules
 
-same-length-9 : tie.Need-same-length-9
-same-length-9 c = search rules
+same_length-9 : tie.Need-shape_of-own_g
+same_length-9 c = search rules
 
-same-length-10 : tie.Need-same-length-10
-same-length-10 c = search rules
+same_length-10 : tie.Need-shape_of-own_h
+same_length-10 c = search rules
 
-same-length-11 : tie.Need-same-length-11
-same-length-11 c = search rules
+same_length-11 : tie.Need-shape_of-own_g_dot
+same_length-11 c = search rules
 
-same-length-12 : tie.Need-same-length-12
-same-length-12 c = search rules
+same_length-12 : tie.Need-shape_of-own_h_dot
+same_length-12 c = search rules
 
-returns-2 : tie.Need-returns-2
+returns-2 : tie.Need-returns
 returns-2 c =
-    let i = c.before.before.before.before.before.before.before.before.before in
-    let t = i.before.before.before.before.before in
-    let w = t.before.before.before.before.before.before.before.before.before.before in
-    let a = w.before.before.before.before.before.before.before.before.before.before.before.before.before.before.args in
+    let a = c.args in
     let y = c.two_at.ensures.1 in
     let e = to_z_pos w32 c.two_at.result (omega (arith, y)) ∙ ap pos c.two_at.ensures.0 in
-    taken_bytes a.entries a.bytes.now (lists_of a.g.now a.h.now a.g_dot.now a.h_dot.now) w.checked.result w.checked.ensures t.enum_told.given.1 _ e _ i.lists.ensures
+    taken_bytes a.entries a.bytes.now (lists_of a.g.now a.h.now a.g_dot.now a.h_dot.now) c.checked.result c.checked.ensures c.in_default.is _ e _ c.lists.ensures
 
 pub read_by_spec : {M : Type 1} → statement M
 read_by_spec =
     tie.close
-    (tie.spec
-    checked-requires
-    enum-known-k
-    same_length
-    same-length-2
-    same-length-3
-    same-length-4
-    returns
-    enum_told
-    lists-requires
-    two-at-requires
-    cast-t31
-    same-length-5
-    same-length-6
-    same-length-7
-    same-length-8
-    same-length-9
-    same-length-10
-    same-length-11
-    same-length-12
-    returns-2)
+    (tie.spec checked-requires enum_known-k same_length same_length-2 same_length-3 same_length-4 returns enum_told lists-requires two_at-requires cast-t31 same_length-5 same_length-6 same_length-7 same_length-8 same_length-9 same_length-10 same_length-11 same_length-12 returns-2)

@@ -13,157 +13,105 @@ use Rattle.stored.proofs.check.form.Reads as form_reads
 use Rattle.stored.proofs.read_longer.Reads as read_longer_reads
 use Rattle.stored.proofs.read_ninety.Reads as read_ninety_reads
 
-check-lengths-requires : tie.Need-check-lengths-requires
-check-lengths-requires c κs = search rules
+check_lengths-requires : tie.Need-check_lengths-requires
+check_lengths-requires c κs = search rules
 
-enum-known-k : tie.Need-enum-known-k
-enum-known-k c = search rules
+enum_known-k : tie.Need-enum_known-k
+enum_known-k c = search rules
 
-same_length : tie.Need-same-length
+same_length : tie.Need-shape_of-g-in-Refused
 same_length c = search rules
 
-same-length-2 : tie.Need-same-length-2
-same-length-2 c = search rules
+same_length-2 : tie.Need-shape_of-h-in-Refused
+same_length-2 c = search rules
 
-same-length-3 : tie.Need-same-length-3
-same-length-3 c = search rules
+same_length-3 : tie.Need-shape_of-g_dot-in-Refused
+same_length-3 c = search rules
 
-same-length-4 : tie.Need-same-length-4
-same-length-4 c = search rules
+same_length-4 : tie.Need-shape_of-h_dot-in-Refused
+same_length-4 c = search rules
 
-returns : tie.Need-returns
+returns : tie.Need-returns-in-Refused
 returns c =
-    let w = c.before.before.before in
-    let a = w.before.before.before.before.before.before.before.before.before.before.args in
-    (bad_output a.bytes.now (lists_of a.g.now a.h.now a.g_dot.now a.h_dot.now) w.check_lengths.result w.check_lengths.ensures.0 c.before.k.given.0.0 c.before.k.given.1, refl)
+    let a = c.args in
+    (bad_output a.bytes.now (lists_of a.g.now a.h.now a.g_dot.now a.h_dot.now) c.check_lengths.result c.check_lengths.ensures.0 c.in-Refused.k c.in-Refused.is, refl)
 
-enum_told : tie.Need-enum-told
+enum_told : tie.Need-enum_told-1
 enum_told c = search rules
 
 form-requires : tie.Need-form-requires
 form-requires c κs = search rules
 
-enum-known-k-2 : tie.Need-enum-known-k-2
-enum-known-k-2 c = search rules
+enum_known-k-2 : tie.Need-enum_known-k-in-Refused-form
+enum_known-k-2 c = search rules
 
-same-length-5 : tie.Need-same-length-5
-same-length-5 c = search rules
+same_length-5 : tie.Need-shape_of-g-in-Refused-form
+same_length-5 c = search rules
 
-same-length-6 : tie.Need-same-length-6
-same-length-6 c = search rules
+same_length-6 : tie.Need-shape_of-h-in-Refused-form
+same_length-6 c = search rules
 
-same-length-7 : tie.Need-same-length-7
-same-length-7 c = search rules
+same_length-7 : tie.Need-shape_of-g_dot-in-Refused-form
+same_length-7 c = search rules
 
-same-length-8 : tie.Need-same-length-8
-same-length-8 c = search rules
+same_length-8 : tie.Need-shape_of-h_dot-in-Refused-form
+same_length-8 c = search rules
 
-returns-2 : tie.Need-returns-2
+returns-2 : tie.Need-returns-in-Refused-form
 returns-2 c =
-    let f = c.before.before.before in
-    let t = f.before in
-    let w = t.before.before in
-    let a = w.before.before.before.before.before.before.before.before.before.before.args in
-    (bad_form a.bytes.now (lists_of a.g.now a.h.now a.g_dot.now a.h_dot.now) w.check_lengths.result w.check_lengths.ensures.0 t.enum_told.given.1 f.form.result f.form.ensures c.before.k2.given.0.0 c.before.k2.given.1, refl)
+    let a = c.args in
+    (bad_form a.bytes.now (lists_of a.g.now a.h.now a.g_dot.now a.h_dot.now) c.check_lengths.result c.check_lengths.ensures.0 c.in_default.is c.form.result c.form.ensures c.in-Refused-form.k c.in-Refused-form.is, refl)
 
-enum-told-2 : tie.Need-enum-told-2
-enum-told-2 c = search rules
+enum_told-2 : tie.Need-enum_told-in_default-form
+enum_told-2 c = search rules
 
-read-ninety-requires : tie.Need-read-ninety-requires
-read-ninety-requires c κs =
-    let o = c.before.before.before.before in
-    let d = o.before in
-    let f = d.before.before in
-    let t = f.before in
-    let w = t.before.before in
-    let a = w.before.before.before.before.before.before.before.before.before.before.args in
-    each_alike (lists_of a.g.now a.h.now a.g_dot.now a.h_dot.now) (sym w.check_lengths.ensures.0 ∙ t.enum_told.given.1) N_COEFF o.if1.true
+read_ninety-requires : tie.Need-read_ninety-requires
+read_ninety-requires c κs =
+    let a = c.args in
+    each_alike (lists_of a.g.now a.h.now a.g_dot.now a.h_dot.now) (sym c.check_lengths.ensures.0 ∙ c.in_default.is) N_COEFF c.if-entries-eq-N_COEFF.true
 
-same-length-9 : tie.Need-same-length-9
-same-length-9 c = search rules
+same_length-9 : tie.Need-shape_of-g-then-entries-eq-N_COEFF
+same_length-9 c = search rules
 
-same-length-10 : tie.Need-same-length-10
-same-length-10 c = search rules
+same_length-10 : tie.Need-shape_of-h-then-entries-eq-N_COEFF
+same_length-10 c = search rules
 
-same-length-11 : tie.Need-same-length-11
-same-length-11 c = search rules
+same_length-11 : tie.Need-shape_of-g_dot-then-entries-eq-N_COEFF
+same_length-11 c = search rules
 
-same-length-12 : tie.Need-same-length-12
-same-length-12 c = search rules
+same_length-12 : tie.Need-shape_of-h_dot-then-entries-eq-N_COEFF
+same_length-12 c = search rules
 
-returns-3 : tie.Need-returns-3
+returns-3 : tie.Need-returns-then-entries-eq-N_COEFF
 returns-3 c =
-    let o = c.before.before.before.before.before.before.before.before.before.before.before.before.before in
-    let d = o.before in
-    let f = d.before.before in
-    let t = f.before in
-    let w = t.before.before in
-    let a = w.before.before.before.before.before.before.before.before.before.before.args in
-    (c.before.before.before.before.before.before.before.before.read-ninety.ensures ∙ either_on a.bytes.now (lists_of a.g.now a.h.now a.g_dot.now a.h_dot.now) w.check_lengths.result w.check_lengths.ensures.0 t.enum_told.given.1 f.form.result f.form.ensures d.enum-told2.given.1 N_COEFF o.if1.true, refl)
+    let a = c.args in
+    (c.read_ninety.ensures ∙ either_on a.bytes.now (lists_of a.g.now a.h.now a.g_dot.now a.h_dot.now) c.check_lengths.result c.check_lengths.ensures.0 c.in_default.is c.form.result c.form.ensures c.in_default-form.is N_COEFF c.if-entries-eq-N_COEFF.true, refl)
 
-read-longer-requires : tie.Need-read-longer-requires
-read-longer-requires c κs =
-    let o = c.before.before.before.before in
-    let d = o.before in
-    let f = d.before.before in
-    let t = f.before in
-    let w = t.before.before in
-    let a = w.before.before.before.before.before.before.before.before.before.before.args in
-    let e = sym w.check_lengths.ensures.0 ∙ t.enum_told.given.1 in
-    each_alike (lists_of a.g.now a.h.now a.g_dot.now a.h_dot.now) e LONGER (two_lengths (length a.g.now) (a_degree (lists_of a.g.now a.h.now a.g_dot.now a.h_dot.now) e) o.if1.false)
+read_longer-requires : tie.Need-read_longer-requires
+read_longer-requires c κs =
+    let a = c.args in
+    let e = sym c.check_lengths.ensures.0 ∙ c.in_default.is in
+    each_alike (lists_of a.g.now a.h.now a.g_dot.now a.h_dot.now) e LONGER (two_lengths (length a.g.now) (a_degree (lists_of a.g.now a.h.now a.g_dot.now a.h_dot.now) e) c.if-entries-eq-N_COEFF.false)
 
-same-length-13 : tie.Need-same-length-13
-same-length-13 c = search rules
+same_length-13 : tie.Need-shape_of-g
+same_length-13 c = search rules
 
-same-length-14 : tie.Need-same-length-14
-same-length-14 c = search rules
+same_length-14 : tie.Need-shape_of-h
+same_length-14 c = search rules
 
-same-length-15 : tie.Need-same-length-15
-same-length-15 c = search rules
+same_length-15 : tie.Need-shape_of-g_dot
+same_length-15 c = search rules
 
-same-length-16 : tie.Need-same-length-16
-same-length-16 c = search rules
+same_length-16 : tie.Need-shape_of-h_dot
+same_length-16 c = search rules
 
-returns-4 : tie.Need-returns-4
+returns-4 : tie.Need-returns
 returns-4 c =
-    let o = c.before.before.before.before.before.before.before.before.before.before.before.before.before in
-    let d = o.before in
-    let f = d.before.before in
-    let t = f.before in
-    let w = t.before.before in
-    let a = w.before.before.before.before.before.before.before.before.before.before.args in
-    let e = sym w.check_lengths.ensures.0 ∙ t.enum_told.given.1 in
-    (c.before.before.before.before.before.before.before.before.read-longer.ensures ∙ either_on a.bytes.now (lists_of a.g.now a.h.now a.g_dot.now a.h_dot.now) w.check_lengths.result w.check_lengths.ensures.0 t.enum_told.given.1 f.form.result f.form.ensures d.enum-told2.given.1 LONGER (two_lengths (length a.g.now) (a_degree (lists_of a.g.now a.h.now a.g_dot.now a.h_dot.now) e) o.if1.false), refl)
+    let a = c.args in
+    let e = sym c.check_lengths.ensures.0 ∙ c.in_default.is in
+    (c.read_longer.ensures ∙ either_on a.bytes.now (lists_of a.g.now a.h.now a.g_dot.now a.h_dot.now) c.check_lengths.result c.check_lengths.ensures.0 c.in_default.is c.form.result c.form.ensures c.in_default-form.is LONGER (two_lengths (length a.g.now) (a_degree (lists_of a.g.now a.h.now a.g_dot.now a.h_dot.now) e) c.if-entries-eq-N_COEFF.false), refl)
 
 pub read_either_spec : {M : Type 1} → statement M
 read_either_spec =
     tie.close
-    (tie.spec
-    check-lengths-requires
-    enum-known-k
-    same_length
-    same-length-2
-    same-length-3
-    same-length-4
-    returns
-    enum_told
-    form-requires
-    enum-known-k-2
-    same-length-5
-    same-length-6
-    same-length-7
-    same-length-8
-    returns-2
-    enum-told-2
-    read-ninety-requires
-    same-length-9
-    same-length-10
-    same-length-11
-    same-length-12
-    returns-3
-    read-longer-requires
-    same-length-13
-    same-length-14
-    same-length-15
-    same-length-16
-    returns-4)
+    (tie.spec check_lengths-requires enum_known-k same_length same_length-2 same_length-3 same_length-4 returns enum_told form-requires enum_known-k-2 same_length-5 same_length-6 same_length-7 same_length-8 returns-2 enum_told-2 read_ninety-requires same_length-9 same_length-10 same_length-11 same_length-12 returns-3 read_longer-requires same_length-13 same_length-14 same_length-15 same_length-16 returns-4)

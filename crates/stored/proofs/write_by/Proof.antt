@@ -27,89 +27,57 @@ sized (pos n) e = (tt, record { fits = let h = leb-true n 65535 e in omega (arit
 sized (negsuc n) e = absurd (subst T (sym e) tt)
 
 -- what the year's test found
-tested : (i : tie.After-is-storable) → i.is-storable.result ≡ storable i.before.before.before.before.before.before.before.before.before.args.epoch_year
-tested i = let s = i.before.before.before.before.before.before.before.before.before in rw (to_z-of_z w32 s.args.epoch_year s.ranges.epoch_year) at i.is-storable.ensures
+tested : (i : tie.After-is_storable) → i.is_storable.result ≡ storable i.args.epoch_year
+tested i = rw (to_z-of_z w32 i.args.epoch_year i.ranges.epoch_year) at i.is_storable.ensures
 
-check-caps-requires : tie.Need-check-caps-requires
-check-caps-requires c κs = search rules
+check_caps-requires : tie.Need-check_caps-requires
+check_caps-requires c κs = search rules
 
-enum-known-k : tie.Need-enum-known-k
-enum-known-k c = search rules
+enum_known-k : tie.Need-enum_known-k
+enum_known-k c = search rules
 
-returns : tie.Need-returns
+returns : tie.Need-returns-in-Refused
 returns c =
-    let w = c.before.before.before in
-    let a = w.before.before.before.before.before.before.args in
-    refused_caps a.entries a.epoch_year (lists_of a.g.now a.h.now a.g_dot.now a.h_dot.now) a.bytes.now w.check_caps.result w.check_caps.ensures.0 c.before.k.given.0.0 c.before.k.given.1
+    let a = c.args in
+    refused_caps a.entries a.epoch_year (lists_of a.g.now a.h.now a.g_dot.now a.h_dot.now) a.bytes.now c.check_caps.result c.check_caps.ensures.0 c.in-Refused.k c.in-Refused.is
 
-enum_told : tie.Need-enum-told
+enum_told : tie.Need-enum_told-1
 enum_told c = search rules
 
-is-storable-requires : tie.Need-is-storable-requires
-is-storable-requires c κs = search rules
+is_storable-requires : tie.Need-is_storable-requires
+is_storable-requires c κs = search rules
 
-returns-2 : tie.Need-returns-2
+returns-2 : tie.Need-returns-then-not-is_storable
 returns-2 c =
-    let i = c.before in
-    let t = i.before in
-    let w = t.before.before in
-    let a = w.before.before.before.before.before.before.args in
-    year_refused a.entries a.epoch_year (lists_of a.g.now a.h.now a.g_dot.now a.h_dot.now) a.bytes.now w.check_caps.result w.check_caps.ensures.0 t.enum_told.given.1 _ (tested i) c.if1.true
+    let a = c.args in
+    year_refused a.entries a.epoch_year (lists_of a.g.now a.h.now a.g_dot.now a.h_dot.now) a.bytes.now c.check_caps.result c.check_caps.ensures.0 c.in_default.is _ (tested c.before) c.if-not-is_storable.true-raw
 
-stored-length-requires : tie.Need-stored-length-requires
-stored-length-requires c κs = search rules
+stored_length-requires : tie.Need-stored_length-requires
+stored_length-requires c κs = search rules
 
-returns-3 : tie.Need-returns-3
+returns-3 : tie.Need-returns-then-bytes-stored_length
 returns-3 c =
-    let m = c.before in
-    let o = m.before in
-    let i = o.before in
-    let t = i.before in
-    let w = t.before.before in
-    let a = w.before.before.before.before.before.before.args in
-    no_room a.entries a.epoch_year (lists_of a.g.now a.h.now a.g_dot.now a.h_dot.now) a.bytes.now w.check_caps.result w.check_caps.ensures.0 t.enum_told.given.1 _ (tested i) o.if1.false _ m.stored-length.ensures c.if2.true
+    let a = c.args in
+    no_room a.entries a.epoch_year (lists_of a.g.now a.h.now a.g_dot.now a.h_dot.now) a.bytes.now c.check_caps.result c.check_caps.ensures.0 c.in_default.is _ (tested c.before.before.before) c.if-not-is_storable.false-raw _ c.stored_length.ensures c.if-bytes-stored_length.true
 
-cast-set : tie.Need-overflow-cast-set
+cast-set : tie.Need-overflow_cast-epoch_year
 cast-set c =
-    let o = c.before.before.before in
-    let i = o.before in
-    let s = i.before.before.before.before.before.before.before.before.before in
-    let z = s.args.epoch_year in
-    rw (to_z-of_z w32 z s.ranges.epoch_year) (sized z (sym (tested i) ∙ not-false _ o.if1.false))
+    let z = c.args.epoch_year in
+    rw (to_z-of_z w32 z c.ranges.epoch_year) (sized z (sym (tested c.before.before.before.before) ∙ not-false _ c.if-not-is_storable.false-raw))
 
 set-requires : tie.Need-set-requires
 set-requires c κs = search rules
 
-same_length : tie.Need-same-length
+same_length : tie.Need-shape_of-bytes
 same_length c = search rules
 
-returns-4 : tie.Need-returns-4
+returns-4 : tie.Need-returns
 returns-4 c =
-    let p = c.before.before in
-    let e = p.before.before in
-    let m = e.before in
-    let o = m.before in
-    let i = o.before in
-    let t = i.before in
-    let w = t.before.before in
-    let s = w.before.before.before.before.before.before in
-    let a = s.args in
-    let y = to_z-of_z w32 a.epoch_year s.ranges.epoch_year in
-    ap (written Verdict.Accepted) (rw y at p.set.ensures) ∙ all_written a.entries a.epoch_year (lists_of a.g.now a.h.now a.g_dot.now a.h_dot.now) a.bytes.now w.check_caps.result w.check_caps.ensures.0 t.enum_told.given.1 _ (tested i) o.if1.false _ m.stored-length.ensures e.if2.false
+    let a = c.args in
+    let y = to_z-of_z w32 a.epoch_year c.ranges.epoch_year in
+    ap (written Verdict.Accepted) (rw y at c.set.ensures) ∙ all_written a.entries a.epoch_year (lists_of a.g.now a.h.now a.g_dot.now a.h_dot.now) a.bytes.now c.check_caps.result c.check_caps.ensures.0 c.in_default.is _ (tested c.before.before.before.before.before.before.before) c.if-not-is_storable.false-raw _ c.stored_length.ensures c.if-bytes-stored_length.false
 
 pub write_by_spec : {M : Type 1} → statement M
 write_by_spec =
     tie.close
-    (tie.spec
-    check-caps-requires
-    enum-known-k
-    returns
-    enum_told
-    is-storable-requires
-    returns-2
-    stored-length-requires
-    returns-3
-    cast-set
-    set-requires
-    same_length
-    returns-4)
+    (tie.spec check_caps-requires enum_known-k returns enum_told is_storable-requires returns-2 stored_length-requires returns-3 cast-set set-requires same_length returns-4)

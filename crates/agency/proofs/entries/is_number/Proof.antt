@@ -22,17 +22,17 @@ above : (z : ℤ) (n : ℕ) → lt_z z (pos 0) ≡ false → eqb (nat_abs z) n �
 above (pos k) n e = refl
 above (negsuc k) n e = absurd (subst T e tt)
 
-returns : tie.Need-returns
-returns c = let z = c.before.args.z in below z c.before.args.n (rw (to_z-of_z w32 z c.before.ranges.z) at c.if1.true)
+returns : tie.Need-returns-then-z-lt0
+returns c = let z = c.args.z in below z c.args.n (rw (to_z-of_z w32 z c.ranges.z) at c.if-z-lt0.true)
 
-cast-result : tie.Need-overflow-cast-result
-cast-result c = size_above c.before.args.z c.before.ranges.z c.if1.false
+cast-result : tie.Need-overflow_cast-result
+cast-result c = size_above c.args.z c.ranges.z c.if-z-lt0.false
 
-returns-2 : tie.Need-returns-2
+returns-2 : tie.Need-returns
 returns-2 c =
-    let z = c.before.args.z in
-    let e = to_z-of_z w32 z c.before.ranges.z in
-    rw e (above z c.before.args.n (rw e at c.if1.false))
+    let z = c.args.z in
+    let e = to_z-of_z w32 z c.ranges.z in
+    rw e (above z c.args.n (rw e at c.if-z-lt0.false))
 
 pub is_number_spec : {M : Type 1} → statement M
 is_number_spec = tie.close (tie.spec returns cast-result returns-2)

@@ -18,13 +18,13 @@ use borrow.Author.Rules.{rules}
 use Rattle.agency.proofs.entries.read_entry.Statement.{statement}
 use Rattle.agency.proofs.entries.read_entry.Tie as tie
 
-wholes-at-requires : tie.Need-wholes-at-requires
-wholes-at-requires c κs = search rules
+wholes_at-requires : tie.Need-wholes_at-requires
+wholes_at-requires c κs = search rules
 
-enum-known-degree : tie.Need-enum-known-degree
-enum-known-degree c = search rules
+enum_known-degree : tie.Need-enum_known-degree
+enum_known-degree c = search rules
 
-enum_told : tie.Need-enum-told
+enum_told : tie.Need-enum_told-1
 enum_told c = search rules
 
 -- what a call found, once its case is known
@@ -41,95 +41,64 @@ abbrev Pairs : List ℕ → ℕ → Float → Float → ℕ → Type 0
 Pairs l from x y next = TakenAt (two_words number_of (words (drop from l))) l (read ((x, y), next))
 
 -- degree and order, main g and h, rate g and h, with the places after them
-place_of : (c : tie.After-degree) → Places c.before.before.before.before.args.line.now 0 c.degree.given.0.0 c.degree.given.0.1.0 c.degree.given.0.1.1.0
-place_of c = let w = c.before.before in place_told w.before.before.args.line.now 0 _ _ w.wholes-at.ensures c.degree.given.1
+place_of : (c : tie.In-Wholes-2) → Places c.args.line.now 0 c.in-Wholes.degree c.in-Wholes.order c.in-Wholes.main
+place_of c = place_told c.args.line.now 0 _ _ c.wholes_at.ensures c.in-Wholes.is
 
-main_of : (c : tie.After-g)
-    → Pairs c.before.before.before.before.before.before.before.before.args.line.now c.before.before.before.before.degree.given.0.1.1.0 c.g.given.0.0 c.g.given.0.1.0 c.g.given.0.1.1.0
+main_of : (c : tie.In-Numbers-2)
+    → Pairs c.args.line.now c.in-Wholes.main c.in-Numbers.g c.in-Numbers.h c.in-Numbers.rate
 main_of c =
-    let w = c.before.before in
-    pair_told w.before.before.before.before.before.before.args.line.now w.before.before.degree.given.0.1.1.0 _ _ w.numbers-at.ensures c.g.given.1
+    pair_told c.args.line.now c.in-Wholes.main _ _ c.numbers_at.ensures c.in-Numbers.is
 
-rate_of : (c : tie.After-g-dot)
-    → Pairs c.before.before.before.before.before.before.before.before.before.before.before.before.args.line.now c.before.before.before.before.g.given.0.1.1.0 c.g_dot.given.0.0 c.g_dot.given.0.1.0 c.g_dot.given.0.1.1.0
+rate_of : (c : tie.In-Numbers-numbers_at-2)
+    → Pairs c.args.line.now c.in-Numbers.rate c.in-Numbers-numbers_at.g_dot c.in-Numbers-numbers_at.h_dot c.in-Numbers-numbers_at.end
 rate_of c =
-    let w = c.before.before in
-    pair_told w.before.before.before.before.before.before.before.before.before.before.args.line.now w.before.before.g.given.0.1.1.0 _ _ w.numbers-at2.ensures c.g_dot.given.1
+    pair_told c.args.line.now c.in-Numbers.rate _ _ c.numbers_at-2.ensures c.in-Numbers-numbers_at.is
 
-returns : tie.Need-returns
+returns : tie.Need-returns-in_default
 returns c =
-    let w = c.before.before in
-    bad_place _ (place_told w.before.before.args.line.now 0 _ _ w.wholes-at.ensures c.enum_told.given.1)
+    bad_place _ (place_told c.args.line.now 0 _ _ c.wholes_at.ensures c.in_default.is)
 
-numbers-at-requires : tie.Need-numbers-at-requires
-numbers-at-requires c κs = (place_of c.before).1
+numbers_at-requires : tie.Need-numbers_at-requires
+numbers_at-requires c κs = (place_of c.before).1
 
-enum-known-g : tie.Need-enum-known-g
-enum-known-g c = search rules
+enum_known-g : tie.Need-enum_known-g
+enum_known-g c = search rules
 
-enum-told-2 : tie.Need-enum-told-2
-enum-told-2 c = search rules
+enum_told-2 : tie.Need-enum_told-in_default-numbers_at
+enum_told-2 c = search rules
 
-returns-2 : tie.Need-returns-2
+returns-2 : tie.Need-returns-in_default-numbers_at
 returns-2 c =
-    let w = c.before.before in
-    let d = w.before.before in
-    bad_main _ _ _ _ (place_of d).0 (pair_told d.before.before.before.before.args.line.now d.degree.given.0.1.1.0 _ _ w.numbers-at.ensures c.enum-told2.given.1)
+    bad_main _ _ _ _ (place_of c.before.before.before.before).0 (pair_told c.args.line.now c.in-Wholes.main _ _ c.numbers_at.ensures c.in_default-numbers_at.is)
 
-numbers-at-requires-2 : tie.Need-numbers-at-requires-2
-numbers-at-requires-2 c κs = (main_of c.before).1
+numbers_at-requires-2 : tie.Need-numbers_at-requires-2
+numbers_at-requires-2 c κs = (main_of c.before).1
 
-enum-known-g-dot : tie.Need-enum-known-g-dot
-enum-known-g-dot c = search rules
+enum_known-g_dot : tie.Need-enum_known-g_dot
+enum_known-g_dot c = search rules
 
-enum-told-3 : tie.Need-enum-told-3
-enum-told-3 c = search rules
+enum_told-3 : tie.Need-enum_told-in_default-numbers_at-2
+enum_told-3 c = search rules
 
-returns-3 : tie.Need-returns-3
+returns-3 : tie.Need-returns-in_default-numbers_at-2
 returns-3 c =
-    let w = c.before.before in
-    let g = w.before.before in
-    let d = g.before.before.before.before in
-    bad_rate _ _ _ _ (place_of d).0 _ _ _ (main_of g).0 (pair_told d.before.before.before.before.args.line.now g.g.given.0.1.1.0 _ _ w.numbers-at2.ensures c.enum-told3.given.1)
+    bad_rate _ _ _ _ (place_of c.before.before.before.before.before.before.before.before).0 _ _ _ (main_of c.before.before.before.before).0 (pair_told c.args.line.now c.in-Numbers.rate _ _ c.numbers_at-2.ensures c.in_default-numbers_at-2.is)
 
-is-end-requires : tie.Need-is-end-requires
-is-end-requires c κs = (rate_of c.before).1
+is_end-requires : tie.Need-is_end-requires
+is_end-requires c κs = (rate_of c.before).1
 
-returns-4 : tie.Need-returns-4
+returns-4 : tie.Need-returns-then-not-is_end
 returns-4 c =
-    let e = c.before in
-    let r = e.before.before in
-    let g = r.before.before.before.before in
-    let d = g.before.before.before.before in
-    too_many _ _ _ _ (place_of d).0 _ _ _ (main_of g).0 _ _ _ (rate_of r).0 _ e.is-end.ensures c.if1.true
+    too_many _ _ _ _ (place_of c.before.before.before.before.before.before.before.before.before.before.before).0 _ _ _ (main_of c.before.before.before.before.before.before.before).0 _ _ _ (rate_of c.before.before.before).0 _ c.is_end.ensures c.if-not-is_end.true-raw
 
-returns-5 : tie.Need-returns-5
+returns-5 : tie.Need-returns
 returns-5 c =
-    let e = c.before in
-    let r = e.before.before in
-    let g = r.before.before.before.before in
-    let d = g.before.before.before.before in
-    let f = g.before.before.before.known-told.given in
-    let n = to_z-of_z w32 d.degree.given.0.0 (record { sfits = f.0.1 }) in
-    let m = to_z-of_z w32 d.degree.given.0.1.0 (record { sfits = f.1.0.1 }) in
-    rw (n, m) (good_entry _ _ _ _ (place_of d).0 _ _ _ (main_of g).0 _ _ _ (rate_of r).0 _ e.is-end.ensures c.if1.false)
+    let f = c.in-Wholes.known_told-1-own.given in
+    let n = to_z-of_z w32 c.in-Wholes.degree (record { sfits = f.0.1 }) in
+    let m = to_z-of_z w32 c.in-Wholes.order (record { sfits = f.1.0.1 }) in
+    rw (n, m) (good_entry _ _ _ _ (place_of c.before.before.before.before.before.before.before.before.before.before.before).0 _ _ _ (main_of c.before.before.before.before.before.before.before).0 _ _ _ (rate_of c.before.before.before).0 _ c.is_end.ensures c.if-not-is_end.false-raw)
 
 pub read_entry_spec : {M : Type 1} → statement M
 read_entry_spec =
     tie.close
-    (tie.spec
-    wholes-at-requires
-    enum-known-degree
-    enum_told
-    returns
-    numbers-at-requires
-    enum-known-g
-    enum-told-2
-    returns-2
-    numbers-at-requires-2
-    enum-known-g-dot
-    enum-told-3
-    returns-3
-    is-end-requires
-    returns-4
-    returns-5)
+    (tie.spec wholes_at-requires enum_known-degree enum_told returns numbers_at-requires enum_known-g enum_told-2 returns-2 numbers_at-requires-2 enum_known-g_dot enum_told-3 returns-3 is_end-requires returns-4 returns-5)

@@ -8,51 +8,39 @@ use Rattle.agency.proofs.Nines.{some_end, some_here, some_on}
 use Rattle.agency.proofs.entries.some_nine.Statement.{statement}
 use Rattle.agency.proofs.entries.some_nine.Tie as tie
 
-abbrev invariant-loop : tie.invariant-loop
+abbrev invariant-loop : tie.invariant-loop-i
 invariant-loop line i₀ i =
     (i ≤ length line) × (some_nine line ≡ some_nine (drop i line))
 
-abbrev decreases-loop : tie.decreases-loop
+abbrev decreases-loop : tie.decreases-loop-i
 decreases-loop line i₀ i =
     length line - i
 
-loop-holds : tie.Need-loop-init invariant-loop decreases-loop
+loop-holds : tie.Need-loop-i-init invariant-loop decreases-loop
 loop-holds c = (search rules, refl)
 
-shared-slice-read-if1 : tie.Need-shared-slice-read-if1 invariant-loop decreases-loop
-shared-slice-read-if1 c = search rules
+shared_slice_read-if1 : tie.Need-bounds-line-i invariant-loop decreases-loop
+shared_slice_read-if1 c = search rules
 
-returns : tie.Need-returns invariant-loop decreases-loop
+returns : tie.Need-returns-then-line-i-eq-NINE invariant-loop decreases-loop
 returns c =
-    let l = c.before.before.before in
-    some_here l.before.args.line.now l.loop.i (search rules) l.loop.invariant.1 c.if1.true
+    some_here c.args.line.now c.loop-i.i (search rules) c.loop-i.invariant.1 c.if-line-i-eq-NINE.true
 
-add-i : tie.Need-overflow-add-i invariant-loop decreases-loop
+add-i : tie.Need-overflow_add-i invariant-loop decreases-loop
 add-i c = search rules
 
-loop-less : tie.Need-loop-smaller invariant-loop decreases-loop
+loop-less : tie.Need-loop-i-smaller invariant-loop decreases-loop
 loop-less c = search rules
 
-loop-again : tie.Need-loop-preserved invariant-loop decreases-loop
+loop-again : tie.Need-loop-i-preserved invariant-loop decreases-loop
 loop-again c =
-    let l = c.before.before.before in
-    (search rules, some_on l.before.args.line.now l.loop.i (search rules) l.loop.invariant.1 c.if1.false)
+    (search rules, some_on c.args.line.now c.loop-i.i (search rules) c.loop-i.invariant.1 c.if-line-i-eq-NINE.false)
 
-returns-2 : tie.Need-returns-2 invariant-loop decreases-loop
+returns-2 : tie.Need-returns invariant-loop decreases-loop
 returns-2 c =
-    let l = c.before in
-    some_end l.before.args.line.now l.loop.i (search rules) l.loop.invariant.1
+    some_end c.args.line.now c.loop-i.i (search rules) c.loop-i.invariant.1
 
 pub some_nine_spec : {M : Type 1} → statement M
 some_nine_spec =
     tie.close
-    (tie.spec
-    invariant-loop
-    decreases-loop
-    loop-holds
-    shared-slice-read-if1
-    returns
-    add-i
-    loop-less
-    loop-again
-    returns-2)
+    (tie.spec invariant-loop decreases-loop loop-holds shared_slice_read-if1 returns add-i loop-less loop-again returns-2)

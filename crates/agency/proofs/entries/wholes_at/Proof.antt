@@ -15,68 +15,53 @@ use borrow.Author.Rules.{rules}
 use Rattle.agency.proofs.entries.wholes_at.Statement.{statement}
 use Rattle.agency.proofs.entries.wholes_at.Tie as tie
 
-whole-at-requires : tie.Need-whole-at-requires
-whole-at-requires c κs = search rules
+whole_at-requires : tie.Need-whole_at-requires
+whole_at-requires c κs = search rules
 
-enum-known-first : tie.Need-enum-known-first
-enum-known-first c = search rules
+enum_known-first : tie.Need-enum_known-first
+enum_known-first c = search rules
 
-enum_told : tie.Need-enum-told
+enum_told : tie.Need-enum_told-1
 enum_told c = search rules
 
 -- what a call found, once its case is known
 told : (l : List ℕ) (from : ℕ) (r s : WholeAt) → TakenAt (next_word whole_of (words (drop from l))) l (whole_at r) → r ≡ s → TakenAt (next_word whole_of (words (drop from l))) l (whole_at s)
 told l from r s h e = subst (λ (v : WholeAt). TakenAt (next_word whole_of (words (drop from l))) l (whole_at v)) e h
 
-returns : tie.Need-returns
+returns : tie.Need-returns-in_default
 returns c =
-    let w = c.before.before in
-    let a = w.before.before.args in
-    first_bad whole_of (words (drop a.from a.line.now)) (told a.line.now a.from _ _ w.whole-at.ensures c.enum_told.given.1)
+    let a = c.args in
+    first_bad whole_of (words (drop a.from a.line.now)) (told a.line.now a.from _ _ c.whole_at.ensures c.in_default.is)
 
-whole-at-requires-2 : tie.Need-whole-at-requires-2
-whole-at-requires-2 c κs =
-    let w = c.before.before.before in
-    let a = w.before.before.args in
-    (told a.line.now a.from _ _ w.whole-at.ensures c.before.first.given.1).1
+whole_at-requires-2 : tie.Need-whole_at-requires-2
+whole_at-requires-2 c κs =
+    let a = c.args in
+    (told a.line.now a.from _ _ c.whole_at.ensures c.in-Whole.is).1
 
-enum-known-value : tie.Need-enum-known-value
-enum-known-value c = search rules
+enum_known-value : tie.Need-enum_known-value
+enum_known-value c = search rules
 
-enum-told-2 : tie.Need-enum-told-2
-enum-told-2 c = search rules
+enum_told-2 : tie.Need-enum_told-in-Malformed
+enum_told-2 c = search rules
 
-returns-2 : tie.Need-returns-2
+returns-2 : tie.Need-returns-in-Whole-whole_at
 returns-2 c =
-    let v = c.before.before.before in
-    let w = v.before.before.before.before in
-    let a = w.before.before.args in
+    let a = c.args in
     let l = a.line.now in
-    let p = told l a.from _ _ w.whole-at.ensures v.before.before.first.given.1 in
-    let q = told l v.before.before.first.given.0.1.0 _ _ v.whole-at2.ensures c.before.value.given.1 in
-    let x = to_z-of_z w32 v.before.before.first.given.0.0 (record { sfits = v.before.known-told.given.0.1 }) in
-    let y = to_z-of_z w32 c.before.value.given.0.0 (record { sfits = c.known-told2.given.0.1 }) in
+    let p = told l a.from _ _ c.whole_at.ensures c.in-Whole.is in
+    let q = told l c.in-Whole.next _ _ c.whole_at-2.ensures c.in-Whole-whole_at.is in
+    let x = to_z-of_z w32 c.in-Whole.first (record { sfits = c.in-Whole.known_told-1-own.given.0.1 }) in
+    let y = to_z-of_z w32 c.in-Whole-whole_at.value (record { sfits = c.in-Whole-whole_at.known_told-in-Whole-whole_at-2-1-own.given.0.1 }) in
     (rw (x, y) (both_good whole_of (words (drop a.from l)) _ _ p.0 _ _ q.0), q.1)
 
-returns-3 : tie.Need-returns-3
+returns-3 : tie.Need-returns-in-Malformed
 returns-3 c =
-    let v = c.before.before in
-    let w = v.before.before.before.before in
-    let a = w.before.before.args in
+    let a = c.args in
     let l = a.line.now in
-    let p = told l a.from _ _ w.whole-at.ensures v.before.before.first.given.1 in
-    second_bad whole_of (words (drop a.from l)) _ _ p.0 (told l v.before.before.first.given.0.1.0 _ _ v.whole-at2.ensures c.enum-told2.given.1)
+    let p = told l a.from _ _ c.whole_at.ensures c.in-Whole.is in
+    second_bad whole_of (words (drop a.from l)) _ _ p.0 (told l c.in-Whole.next _ _ c.whole_at-2.ensures c.in-Malformed.is)
 
 pub wholes_at_spec : {M : Type 1} → statement M
 wholes_at_spec =
     tie.close
-    (tie.spec
-    whole-at-requires
-    enum-known-first
-    enum_told
-    returns
-    whole-at-requires-2
-    enum-known-value
-    enum-told-2
-    returns-2
-    returns-3)
+    (tie.spec whole_at-requires enum_known-first enum_told returns whole_at-requires-2 enum_known-value enum_told-2 returns-2 returns-3)

@@ -19,54 +19,40 @@ use Rattle.agency.proofs.file.header.Tie as tie
 told : (l : List ℕ) (r s : WholeAt) → TakenAt (next_word whole_of (words l)) l (whole_at r) → r ≡ s → TakenAt (next_word whole_of (words l)) l (whole_at s)
 told l r s h e = subst (λ (v : WholeAt). TakenAt (next_word whole_of (words l)) l (whole_at v)) e h
 
-returns : tie.Need-returns
-returns c = no_header _ (no_line c.before.before.args.text.now c.if1.true)
+returns : tie.Need-returns-then-text-eq0
+returns c = no_header _ (no_line c.args.text.now c.if-text-eq0.true)
 
-line-from-requires : tie.Need-line-from-requires
-line-from-requires c κs = search rules
+line_from-requires : tie.Need-line_from-l-requires
+line_from-requires c κs = search rules
 
-sub-whole-at : tie.Need-overflow-sub-whole-at
-sub-whole-at c = search rules
+sub-whole_at : tie.Need-slice_bounds-whole_at-count
+sub-whole_at c = search rules
 
-part-whole-at-start : tie.Need-slice-bounds-whole-at-start
-part-whole-at-start c = search rules
+whole_at-requires : tie.Need-whole_at-requires
+whole_at-requires c κs = search rules
 
-part-whole-at-end : tie.Need-slice-bounds-whole-at-end
-part-whole-at-end c = search rules
+enum_known-value : tie.Need-enum_known-value
+enum_known-value c = search rules
 
-whole-at-requires : tie.Need-whole-at-requires
-whole-at-requires c κs = search rules
-
-enum-known-value : tie.Need-enum-known-value
-enum-known-value c = search rules
-
-enum_told : tie.Need-enum-told
+enum_told : tie.Need-enum_told-1
 enum_told c = search rules
 
-returns-2 : tie.Need-returns-2
+returns-2 : tie.Need-returns-in-Whole
 returns-2 c =
-    let w = c.before.before.before in
-    let l = w.before.before in
-    let f = to_z-of_z w32 c.before.value.given.0.0 (record { sfits = c.known-told.given.0.1 }) in
-    (rw f (good_header _ _ _ l.line-from.ensures.0 _ _ (told _ _ _ w.whole-at.ensures c.before.value.given.1).0), search rules, search rules)
+    let f = to_z-of_z w32 c.in-Whole.value (record { sfits = c.in-Whole.known_told-1-own.given.0.1 }) in
+    (rw f (good_header _ _ _ c.line_from-l.ensures.0 _ _ (told _ _ _ c.whole_at.ensures c.in-Whole.is).0), search rules, search rules)
 
-returns-3 : tie.Need-returns-3
+returns-3 : tie.Need-returns-in-Malformed
 returns-3 c =
-    let w = c.before.before in
-    let l = w.before.before in
-    bad_header _ _ _ l.line-from.ensures.0 (told _ _ _ w.whole-at.ensures c.enum_told.given.1)
+    bad_header _ _ _ c.line_from-l.ensures.0 (told _ _ _ c.whole_at.ensures c.in-Malformed.is)
+
+slice_bounds-whole_at-start : tie.Need-slice_bounds-whole_at-start
+slice_bounds-whole_at-start c = search rules
+
+slice_bounds-whole_at-end : tie.Need-slice_bounds-whole_at-end
+slice_bounds-whole_at-end c = search rules
 
 pub header_spec : {M : Type 1} → statement M
 header_spec =
     tie.close
-    (tie.spec
-    returns
-    line-from-requires
-    sub-whole-at
-    part-whole-at-start
-    part-whole-at-end
-    whole-at-requires
-    enum-known-value
-    enum_told
-    returns-2
-    returns-3)
+    (tie.spec returns line_from-requires sub-whole_at slice_bounds-whole_at-start slice_bounds-whole_at-end whole_at-requires enum_known-value enum_told returns-2 returns-3)

@@ -9,27 +9,27 @@ use borrow.Author.Rules.{rules}
 use Rattle.agency.proofs.file.is_due.Statement.{statement}
 use Rattle.agency.proofs.file.is_due.Tie as tie
 
-is-number-requires : tie.Need-is-number-requires
-is-number-requires c κs = search rules
+is_number-requires : tie.Need-is_number-requires
+is_number-requires c κs = search rules
 
 -- an i32 is passed by its bits
-degree_is : (c : tie.After-is-number) → c.is_number.result ≡ equals c.before.before.args.e.degree c.before.before.args.p.degree
+degree_is : (c : tie.After-is_number) → c.is_number.result ≡ equals c.args.e.degree c.args.p.degree
 degree_is c =
-    let a = c.before.before.args in
-    c.is_number.ensures ∙ ap (λ (z : ℤ). equals z a.p.degree) (to_z-of_z w32 a.e.degree (record { sfits = c.before.struct_told.given.0.1 }))
+    let a = c.args in
+    c.is_number.ensures ∙ ap (λ (z : ℤ). equals z a.p.degree) (to_z-of_z w32 a.e.degree (record { sfits = c.struct_told-1.given.0.1 }))
 
-returns : tie.Need-returns
-returns c = first_fails _ _ _ (degree_is c.before) c.if1.true
+returns : tie.Need-returns-then-not-is_number
+returns c = first_fails _ _ _ (degree_is c.before) c.if-not-is_number.true-raw
 
-is-number-requires-2 : tie.Need-is-number-requires-2
-is-number-requires-2 c κs = search rules
+is_number-requires-2 : tie.Need-is_number-requires-2
+is_number-requires-2 c κs = search rules
 
-returns-2 : tie.Need-returns-2
+returns-2 : tie.Need-returns
 returns-2 c =
-    let a = c.before.before.before.before.before.args in
-    let o : c.is-number2.result ≡ equals a.e.order a.p.order =
-    c.is-number2.ensures ∙ ap (λ (z : ℤ). equals z a.p.order) (to_z-of_z w32 a.e.order (record { sfits = c.before.struct-told2.given.1.0.1 })) in
-    second_decides _ _ _ (degree_is c.before.before.before) c.before.before.if1.false _ o
+    let a = c.args in
+    let o : c.is_number-2.result ≡ equals a.e.order a.p.order =
+    c.is_number-2.ensures ∙ ap (λ (z : ℤ). equals z a.p.order) (to_z-of_z w32 a.e.order (record { sfits = c.struct_told-2-1.given.1.0.1 })) in
+    second_decides _ _ _ (degree_is c.before.before.before) c.if-not-is_number.false-raw _ o
 
 pub is_due_spec : {M : Type 1} → statement M
-is_due_spec = tie.close (tie.spec is-number-requires returns is-number-requires-2 returns-2)
+is_due_spec = tie.close (tie.spec is_number-requires returns is_number-requires-2 returns-2)

@@ -6,49 +6,39 @@ use borrow.Author.Rules.{rules}
 use Rattle.agency.proofs.file.line_from.Statement.{statement}
 use Rattle.agency.proofs.file.line_from.Tie as tie
 
-sub-first-line : tie.Need-overflow-sub-first-line
-sub-first-line c = search rules
+sub-first_line : tie.Need-slice_bounds-first_line-count
+sub-first_line c = search rules
 
-part-first-line-start : tie.Need-slice-bounds-first-line-start
-part-first-line-start c = search rules
+first_line-requires : tie.Need-first_line-l-requires
+first_line-requires c κs = search rules
 
-part-first-line-end : tie.Need-slice-bounds-first-line-end
-part-first-line-end c = search rules
-
-first-line-requires : tie.Need-first-line-requires
-first-line-requires c κs = search rules
-
-add-t5 : tie.Need-overflow-add-t5
+add-t5 : tie.Need-overflow_add-result
 add-t5 c =
-    let f = c.before in
-    let a = f.before.before.before.args in
-    let w = line_within a.text.now a.at (search rules) _ f.first_line.ensures.0 in
+    let a = c.args in
+    let w = line_within a.text.now a.at (search rules) _ c.first_line-l.ensures.0 in
     search rules
 
-add-t8 : tie.Need-overflow-add-t8
+add-t8 : tie.Need-overflow_add-result-2
 add-t8 c =
-    let f = c.before.before in
-    let a = f.before.before.before.args in
-    let w = next_within a.text.now a.at (search rules) _ f.first_line.ensures.0 in
+    let a = c.args in
+    let w = next_within a.text.now a.at (search rules) _ c.first_line-l.ensures.0 in
     search rules
 
 returns : tie.Need-returns
 returns c =
-    let f = c.before.before in
-    let a = f.before.before.before.args in
+    let a = c.args in
     let h : a.at < length a.text.now = search rules in
-    let e = f.first_line.ensures.0 in
+    let e = c.first_line-l.ensures.0 in
     let s = a.text.now in
     (line_first s a.at h _ e, (search rules, line_within s a.at h _ e, line_order s a.at h _ e, next_within s a.at h _ e))
+
+slice_bounds-first_line-start : tie.Need-slice_bounds-first_line-start
+slice_bounds-first_line-start c = search rules
+
+slice_bounds-first_line-end : tie.Need-slice_bounds-first_line-end
+slice_bounds-first_line-end c = search rules
 
 pub line_from_spec : {M : Type 1} → statement M
 line_from_spec =
     tie.close
-    (tie.spec
-    sub-first-line
-    part-first-line-start
-    part-first-line-end
-    first-line-requires
-    add-t5
-    add-t8
-    returns)
+    (tie.spec sub-first_line slice_bounds-first_line-start slice_bounds-first_line-end first_line-requires add-t5 add-t8 returns)

@@ -15,11 +15,11 @@ use Rattle.agency.proofs.Progress.{Progress, start, refused_row, next_row, ninet
 use Rattle.agency.proofs.file.rows.Statement.{statement}
 use Rattle.agency.proofs.file.rows.Tie as tie
 
-abbrev invariant-loop : tie.invariant-loop
+abbrev invariant-loop : tie.invariant-loop-k
 invariant-loop text from g₀ h₀ g-dot₀ h-dot₀ at₀ p₀ k₀ g h g_dot h_dot at p k =
     Progress text from g h g_dot h_dot at p k
 
-abbrev decreases-loop : tie.decreases-loop
+abbrev decreases-loop : tie.decreases-loop-k
 decreases-loop text from g₀ h₀ g-dot₀ h-dot₀ at₀ p₀ k₀ g h g_dot h_dot at p k =
     N_COEFF - k
 
@@ -27,121 +27,92 @@ decreases-loop text from g₀ h₀ g-dot₀ h-dot₀ at₀ p₀ k₀ g h g_dot h
 row_told : (s : List ℕ) (at i : ℕ) (p : Place) (r : RowAnswer) {t : RowAnswer} → LineTaken (row_says i p (lines (drop at s))) s at (row_at r) → r ≡ t → LineTaken (row_says i p (lines (drop at s))) s at (row_at t)
 row_told s at i p r h e = subst (λ (v : RowAnswer). LineTaken (row_says i p (lines (drop at s))) s at (row_at v)) e h
 
-loop-holds : tie.Need-loop-init invariant-loop decreases-loop
+loop-holds : tie.Need-loop-k-init invariant-loop decreases-loop
 loop-holds c =
-    let a = c.before.args in
-    start a.text.now a.from _ _ _ _ c.before.requires.0 c.before.requires.1.0 c.before.requires.1.1
+    let a = c.args in
+    start a.text.now a.from _ _ _ _ c.requires.0 c.requires.1.0 c.requires.1.1
 
-add-read-row : tie.Need-overflow-add-read-row invariant-loop decreases-loop
-add-read-row c = search rules
+add-read_row : tie.Need-overflow_add-k invariant-loop decreases-loop
+add-read_row c = search rules
 
-read-row-requires : tie.Need-read-row-requires invariant-loop decreases-loop
-read-row-requires c κs = c.before.loop.invariant.within
+read_row-requires : tie.Need-read_row-requires invariant-loop decreases-loop
+read_row-requires c κs = c.loop-k.invariant.within
 
-enum-known-why : tie.Need-enum-known-why invariant-loop decreases-loop
-enum-known-why c = search rules
+enum_known-why : tie.Need-enum_known-why invariant-loop decreases-loop
+enum_known-why c = search rules
 
-returns : tie.Need-returns invariant-loop decreases-loop
+returns : tie.Need-returns-in-Refused invariant-loop decreases-loop
 returns c =
-    let w = c.before.before.before in
-    let o = w.before.before in
-    let i = o.loop.invariant in
-    let s = o.before.before.args.text.now in
-    (ninety _ _ _ _ _ _ _ _ _ i, refused_row _ _ _ _ _ _ _ _ _ i _ _ (search rules) (row_told s o.loop.at (o.loop.k + 2) o.loop.p _ w.read-row.ensures c.before.why.given.1))
+    let i = c.loop-k.invariant in
+    let s = c.args.text.now in
+    (ninety _ _ _ _ _ _ _ _ _ i, refused_row _ _ _ _ _ _ _ _ _ i _ _ (search rules) (row_told s c.loop-k.at (c.loop-k.k + 2) c.loop-k.p _ c.read_row.ensures c.in-Refused.is))
 
-enum-known-r : tie.Need-enum-known-r invariant-loop decreases-loop
-enum-known-r c = search rules
+enum_known-r : tie.Need-enum_known-r invariant-loop decreases-loop
+enum_known-r c = search rules
 
-mul-g : tie.Need-overflow-mul-g invariant-loop decreases-loop
+mul-g : tie.Need-offset_bounds-g-k invariant-loop decreases-loop
 mul-g c = search rules
 
-element-write-g : tie.Need-element-write-g invariant-loop decreases-loop
-element-write-g c = search rules
+element_write-g : tie.Need-bounds-g-k invariant-loop decreases-loop
+element_write-g c = search rules
 
-mul-h : tie.Need-overflow-mul-h invariant-loop decreases-loop
+mul-h : tie.Need-offset_bounds-h-k invariant-loop decreases-loop
 mul-h c = search rules
 
-element-write-h : tie.Need-element-write-h invariant-loop decreases-loop
-element-write-h c = search rules
+element_write-h : tie.Need-bounds-h-k invariant-loop decreases-loop
+element_write-h c = search rules
 
-mul-g-dot : tie.Need-overflow-mul-g-dot invariant-loop decreases-loop
-mul-g-dot c = search rules
+mul-g_dot : tie.Need-offset_bounds-g_dot-k invariant-loop decreases-loop
+mul-g_dot c = search rules
 
-element-write-g-dot : tie.Need-element-write-g-dot invariant-loop decreases-loop
-element-write-g-dot c = search rules
+element_write-g_dot : tie.Need-bounds-g_dot-k invariant-loop decreases-loop
+element_write-g_dot c = search rules
 
-mul-h-dot : tie.Need-overflow-mul-h-dot invariant-loop decreases-loop
-mul-h-dot c = search rules
+mul-h_dot : tie.Need-offset_bounds-h_dot-k invariant-loop decreases-loop
+mul-h_dot c = search rules
 
-element-write-h-dot : tie.Need-element-write-h-dot invariant-loop decreases-loop
-element-write-h-dot c = search rules
+element_write-h_dot : tie.Need-bounds-h_dot-k invariant-loop decreases-loop
+element_write-h_dot c = search rules
 
-following-requires : tie.Need-following-requires invariant-loop decreases-loop
+following-requires : tie.Need-following-p-requires invariant-loop decreases-loop
 following-requires c κs =
-    let i = c.before.before.before.before.before.before.loop.invariant in
+    let i = c.loop-k.invariant in
     (omega (arith, i.low_degree), omega (arith, i.low_order))
 
-add-k : tie.Need-overflow-add-k invariant-loop decreases-loop
+add-k : tie.Need-overflow_add-k-in-loop-k invariant-loop decreases-loop
 add-k c = search rules
 
-loop-less : tie.Need-loop-smaller invariant-loop decreases-loop
+loop-less : tie.Need-loop-k-smaller invariant-loop decreases-loop
 loop-less c = search rules
 
-loop-again : tie.Need-loop-preserved invariant-loop decreases-loop
+loop-again : tie.Need-loop-k-preserved invariant-loop decreases-loop
 loop-again c =
-    let r = c.before.before.before in
-    let w = r.before.before in
-    let o = w.before.before in
-    let k : o.loop.k < N_COEFF = search rules in
-    let a = o.before.before.args in
+    let k : c.loop-k.k < N_COEFF = search rules in
+    let a = c.args in
     let s = a.text.now in
-    let e = r.r.given.0.0.entry in
-    let j = o.loop.k in
+    let e = c.in-Row.r.entry in
+    let j = c.loop-k.k in
     subst
-    (λ (q : Place). Progress s a.from (set o.loop.g j e.g) (set o.loop.h j e.h) (set o.loop.g_dot j e.g_dot) (set o.loop.h_dot j e.h_dot) r.r.given.0.0.next q (j + 1))
-    (sym c.following.ensures)
-    (next_row _ _ _ _ _ _ _ _ _ o.loop.invariant e _ k (row_told s o.loop.at (j + 2) o.loop.p _ w.read-row.ensures r.r.given.1))
+    (λ (q : Place). Progress s a.from (set c.loop-k.g j e.g) (set c.loop-k.h j e.h) (set c.loop-k.g_dot j e.g_dot) (set c.loop-k.h_dot j e.h_dot) c.in-Row.r.next q (j + 1))
+    (sym c.following-p.ensures)
+    (next_row _ _ _ _ _ _ _ _ _ c.loop-k.invariant e _ k (row_told s c.loop-k.at (j + 2) c.loop-k.p _ c.read_row.ensures c.in-Row.is))
 
-add-nines-follow : tie.Need-overflow-add-nines-follow invariant-loop decreases-loop
-add-nines-follow c = search rules
+add-nines_follow : tie.Need-overflow_add-nines_follow invariant-loop decreases-loop
+add-nines_follow c = search rules
 
-nines-follow-requires : tie.Need-nines-follow-requires invariant-loop decreases-loop
-nines-follow-requires c κs =
-    let i = c.before.loop.invariant in
+nines_follow-requires : tie.Need-nines_follow-requires invariant-loop decreases-loop
+nines_follow-requires c κs =
+    let i = c.loop-k.invariant in
     let a = i.ahead in
-    let k : N_COEFF ≤ c.before.loop.k = search rules in
+    let k : N_COEFF ≤ c.loop-k.k = search rules in
     (i.within, omega (arith, a, k))
 
-returns-2 : tie.Need-returns-2 invariant-loop decreases-loop
+returns-2 : tie.Need-returns invariant-loop decreases-loop
 returns-2 c =
-    let o = c.before.before in
-    let i = o.loop.invariant in
-    (ninety _ _ _ _ _ _ _ _ _ i, last_row _ _ _ _ _ _ _ _ _ i (search rules) _ c.nines-follow.ensures)
+    let i = c.loop-k.invariant in
+    (ninety _ _ _ _ _ _ _ _ _ i, last_row _ _ _ _ _ _ _ _ _ i (search rules) _ c.nines_follow.ensures)
 
 pub rows_spec : {M : Type 1} → statement M
 rows_spec =
     tie.close
-    (tie.spec
-    invariant-loop
-    decreases-loop
-    loop-holds
-    add-read-row
-    read-row-requires
-    enum-known-why
-    returns
-    enum-known-r
-    mul-g
-    element-write-g
-    mul-h
-    element-write-h
-    mul-g-dot
-    element-write-g-dot
-    mul-h-dot
-    element-write-h-dot
-    following-requires
-    add-k
-    loop-less
-    loop-again
-    add-nines-follow
-    nines-follow-requires
-    returns-2)
+    (tie.spec invariant-loop decreases-loop loop-holds add-read_row read_row-requires enum_known-why returns enum_known-r mul-g element_write-g mul-h element_write-h mul-g_dot element_write-g_dot mul-h_dot element_write-h_dot following-requires add-k loop-less loop-again add-nines_follow nines_follow-requires returns-2)

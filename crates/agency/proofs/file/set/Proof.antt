@@ -20,11 +20,11 @@ use Rattle.agency.proofs.file.set.Tie as tie
 header-requires : tie.Need-header-requires
 header-requires c κs = search rules
 
-enum-known-k : tie.Need-enum-known-k
-enum-known-k c = search rules
+enum_known-k : tie.Need-enum_known-k
+enum_known-k c = search rules
 
-enum-known-year : tie.Need-enum-known-year
-enum-known-year c = search rules
+enum_known-year : tie.Need-enum_known-year
+enum_known-year c = search rules
 
 -- what the header is, once its case is known
 header_told : (s : List ℕ) (r : HeaderAnswer) {t : HeaderAnswer} → LineTaken (header_says (lines s)) s 0 (header_at r) → r ≡ t → LineTaken (header_says (lines s)) s 0 (header_at t)
@@ -36,55 +36,35 @@ rows_told s n l v f e = subst (λ (u : Verdict). RowsFilled (rows_say N_COEFF 2 
 
 rows-requires : tie.Need-rows-requires
 rows-requires c κs =
-    let y = c.before.before.before.before.before in
-    let w = y.before.before in
-    let s = w.before.before in
-    let t = header_told s.args.text.now _ w.header.ensures y.year.given.1 in
-    (t.2, (t.1, s.requires))
+    let t = header_told c.args.text.now _ c.header.ensures c.in-Header.is in
+    (t.2, (t.1, c.requires))
 
-enum_told : tie.Need-enum-told
+enum_told : tie.Need-enum_told-1
 enum_told c = search rules
 
-enum-known-k-2 : tie.Need-enum-known-k-2
-enum-known-k-2 c = search rules
+enum_known-k-2 : tie.Need-enum_known-k-in-Refused-rows
+enum_known-k-2 c = search rules
 
-returns : tie.Need-returns
+returns : tie.Need-returns-in-Refused
 returns c =
-    let w = c.before.before.before in
-    let s = w.before.before in
-    (s.requires, no_file _ (lists_of s.args.g.now s.args.h.now s.args.g_dot.now s.args.h_dot.now) c.before.k.given.0.0 (header_told s.args.text.now _ w.header.ensures c.before.k.given.1))
+    (c.requires, no_file _ (lists_of c.args.g.now c.args.h.now c.args.g_dot.now c.args.h_dot.now) c.in-Refused.k (header_told c.args.text.now _ c.header.ensures c.in-Refused.is))
 
-returns-2 : tie.Need-returns-2
+returns-2 : tie.Need-returns-in-Accepted
 returns-2 c =
-    let r = c.before.before in
-    let y = r.before.before.before.before.before.before in
-    let w = y.before.before in
-    let s = w.before.before.args.text.now in
-    let l = lists_of r.rows.new.1.1.0 r.rows.new.1.1.1.0 r.rows.new.1.1.1.1.0 r.rows.new.1.1.1.1.1.0 in
-    let t = header_told s _ w.header.ensures y.year.given.1 in
-    let e = to_z-of_z w32 y.year.given.0.0 (record { sfits = r.before.before.before.before.before.known-told2.given.0.1 }) in
-    (r.rows.ensures.0, rw e (good_lines _ l _ _ t.0 (rows_told s y.year.given.0.1.0 l _ r.rows.ensures.1 c.enum_told.given.1)))
+    let s = c.args.text.now in
+    let l = lists_of c.rows.new.1.1.0 c.rows.new.1.1.1.0 c.rows.new.1.1.1.1.0 c.rows.new.1.1.1.1.1.0 in
+    let t = header_told s _ c.header.ensures c.in-Header.is in
+    let e = to_z-of_z w32 c.in-Header.year (record { sfits = c.in-Header.known_told-in-Header-1-own.given.0.1 }) in
+    (c.rows.ensures.0, rw e (good_lines _ l _ _ t.0 (rows_told s c.in-Header.next l _ c.rows.ensures.1 c.in-Accepted.is)))
 
-returns-3 : tie.Need-returns-3
+returns-3 : tie.Need-returns-in-Refused-rows
 returns-3 c =
-    let r = c.before.before.before in
-    let y = r.before.before.before.before.before.before in
-    let w = y.before.before in
-    let s = w.before.before.args.text.now in
-    let l = lists_of r.rows.new.1.1.0 r.rows.new.1.1.1.0 r.rows.new.1.1.1.1.0 r.rows.new.1.1.1.1.1.0 in
-    let t = header_told s _ w.header.ensures y.year.given.1 in
-    (r.rows.ensures.0, bad_lines _ l _ _ t.0 c.before.k2.given.0.0 (rows_told s y.year.given.0.1.0 l _ r.rows.ensures.1 c.before.k2.given.1))
+    let s = c.args.text.now in
+    let l = lists_of c.rows.new.1.1.0 c.rows.new.1.1.1.0 c.rows.new.1.1.1.1.0 c.rows.new.1.1.1.1.1.0 in
+    let t = header_told s _ c.header.ensures c.in-Header.is in
+    (c.rows.ensures.0, bad_lines _ l _ _ t.0 c.in-Refused-rows.k (rows_told s c.in-Header.next l _ c.rows.ensures.1 c.in-Refused-rows.is))
 
 pub set_spec : {M : Type 1} → statement M
 set_spec =
     tie.close
-    (tie.spec
-    header-requires
-    enum-known-k
-    enum-known-year
-    rows-requires
-    enum_told
-    enum-known-k-2
-    returns
-    returns-2
-    returns-3)
+    (tie.spec header-requires enum_known-k enum_known-year rows-requires enum_told enum_known-k-2 returns returns-2 returns-3)

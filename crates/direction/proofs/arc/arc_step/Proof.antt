@@ -8,19 +8,19 @@ use borrow.Author.Rules.{rules}
 use Rattle.direction.proofs.arc.arc_step.Statement.{statement}
 use Rattle.direction.proofs.arc.arc_step.Tie as tie
 
-mul-result : tie.Need-overflow-mul-result
+mul-result : tie.Need-overflow_mul-result
 mul-result c = omega (arith, mul-le-mul c.requires.1.1 c.requires.0)
 
-add-result : tie.Need-overflow-add-result
+add-result : tie.Need-overflow_add-result
 add-result c = search rules
 
-div-result : tie.Need-nonzero-div-result
+div-result : tie.Need-nonzero_div-result
 div-result c = search rules
 
-mul-result-2 : tie.Need-overflow-mul-result-2
+mul-result-2 : tie.Need-overflow_mul-result-2
 mul-result-2 c = omega (arith, step_fits c.args.z c.args.h c.args.j c.requires.0 c.requires.1.0 c.requires.1.1)
 
-sub-result : tie.Need-overflow-sub-result
+sub-result : tie.Need-overflow_sub-result
 sub-result c = step_cut c.args.z c.args.h c.args.j c.requires.0 c.requires.1.0
 
 returns : tie.Need-returns

@@ -6,10 +6,10 @@ use borrow.Author.Rules.{rules}
 use Rattle.direction.proofs.arc.ratio.Statement.{statement}
 use Rattle.direction.proofs.arc.ratio.Tie as tie
 
-mul-result : tie.Need-overflow-mul-result
+mul-result : tie.Need-overflow_mul-result
 mul-result c = search rules
 
-div-result : tie.Need-nonzero-div-result
+div-result : tie.Need-nonzero_div-result
 div-result c = search rules
 
 returns : tie.Need-returns

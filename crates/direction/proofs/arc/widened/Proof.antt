@@ -6,7 +6,7 @@ use borrow.Author.Rules.{rules}
 use Rattle.direction.proofs.arc.widened.Statement.{statement}
 use Rattle.direction.proofs.arc.widened.Tie as tie
 
-shl-result : tie.Need-overflow-shl-result
+shl-result : tie.Need-overflow_shl-result
 shl-result c = search rules
 
 returns : tie.Need-returns

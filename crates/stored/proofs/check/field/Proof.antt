@@ -6,90 +6,59 @@ use Rattle.stored.proofs.check.field.Statement.{statement}
 use Rattle.stored.proofs.check.field.Tie as tie
 use Rattle.stored.proofs.take.two_at.Reads as two_at_reads
 
-returns : tie.Need-returns
-returns c = let a = c.before.before.args in no_tag a.tag a.n a.at a.bytes.now (search rules)
+returns : tie.Need-returns-then-end-at
+returns c = let a = c.args in no_tag a.tag a.n a.at a.bytes.now (search rules)
 
-shared-slice-read-if2 : tie.Need-shared-slice-read-if2
-shared-slice-read-if2 c = search rules
+shared_slice_read-if2 : tie.Need-bounds-bytes-at
+shared_slice_read-if2 c = search rules
 
-cast-if2 : tie.Need-overflow-cast-if2
-cast-if2 c = let b = (c.shared-slice-known2.given c.before.before.before.args.at).fits in record { fits = omega (arith, b) }
+cast-if2 : tie.Need-overflow_cast-bytes
+cast-if2 c = let b = (c.shared_slice_known-2-1.given c.args.at).fits in record { fits = omega (arith, b) }
 
-returns-2 : tie.Need-returns-2
+returns-2 : tie.Need-returns-then-bytes-at
 returns-2 c =
-    let e = c.before.before in
-    let a = e.before.before.args in
-    other_tag a.tag a.n a.at a.bytes.now e.if1.false c.if2.true
+    let a = c.args in
+    other_tag a.tag a.n a.at a.bytes.now c.if-end-at.false c.if-bytes-at.true
 
-add-if3 : tie.Need-overflow-add-if3
+add-if3 : tie.Need-overflow_add-at
 add-if3 c = search rules
 
-returns-3 : tie.Need-returns-3
+returns-3 : tie.Need-returns-then-end-at-2
 returns-3 c =
-    let t = c.before in
-    let e = t.before.before in
-    let a = e.before.before.args in
-    no_length a.tag a.n a.at a.bytes.now e.if1.false t.if2.false c.if3.true
+    let a = c.args in
+    no_length a.tag a.n a.at a.bytes.now c.if-end-at.false c.if-bytes-at.false c.if-end-at-2.true
 
-add-two-at : tie.Need-overflow-add-two-at
-add-two-at c = search rules
+add-two_at : tie.Need-overflow_add-at-2
+add-two_at c = search rules
 
-two-at-requires : tie.Need-two-at-requires
-two-at-requires c κs = search rules
+two_at-requires : tie.Need-two_at-requires
+two_at-requires c κs = search rules
 
-add-t14 : tie.Need-overflow-add-t14
+add-t14 : tie.Need-overflow_add-result
 add-t14 c = search rules
 
-returns-4 : tie.Need-returns-4
+returns-4 : tie.Need-returns-then-two_at-n
 returns-4 c =
-    let w = c.before in
-    let l = w.before in
-    let t = l.before in
-    let e = t.before.before in
-    let a = e.before.before.args in
-    other_length a.tag a.n a.at a.bytes.now e.if1.false t.if2.false l.if3.false _ w.two_at.ensures.0 c.if4.true
+    let a = c.args in
+    other_length a.tag a.n a.at a.bytes.now c.if-end-at.false c.if-bytes-at.false c.if-end-at-2.false _ c.two_at.ensures.0 c.if-two_at-n.true
 
-add-if5 : tie.Need-overflow-add-if5
+add-if5 : tie.Need-overflow_add-at-3
 add-if5 c = search rules
 
-add-if5-2 : tie.Need-overflow-add-if5-2
+add-if5-2 : tie.Need-overflow_add-at-4
 add-if5-2 c = search rules
 
-returns-5 : tie.Need-returns-5
+returns-5 : tie.Need-returns-then-end-at-3
 returns-5 c =
-    let m = c.before in
-    let w = m.before in
-    let l = w.before in
-    let t = l.before in
-    let e = t.before.before in
-    let a = e.before.before.args in
-    no_content a.tag a.n a.at a.bytes.now e.if1.false t.if2.false l.if3.false _ w.two_at.ensures.0 m.if4.false c.if5.true
+    let a = c.args in
+    no_content a.tag a.n a.at a.bytes.now c.if-end-at.false c.if-bytes-at.false c.if-end-at-2.false _ c.two_at.ensures.0 c.if-two_at-n.false c.if-end-at-3.true
 
-returns-6 : tie.Need-returns-6
+returns-6 : tie.Need-returns
 returns-6 c =
-    let m = c.before in
-    let w = m.before in
-    let l = w.before in
-    let t = l.before in
-    let e = t.before.before in
-    let a = e.before.before.args in
-    whole a.tag a.n a.at a.bytes.now e.if1.false t.if2.false l.if3.false _ w.two_at.ensures.0 m.if4.false c.if5.false
+    let a = c.args in
+    whole a.tag a.n a.at a.bytes.now c.if-end-at.false c.if-bytes-at.false c.if-end-at-2.false _ c.two_at.ensures.0 c.if-two_at-n.false c.if-end-at-3.false
 
 pub field_spec : {M : Type 1} → statement M
 field_spec =
     tie.close
-    (tie.spec
-    returns
-    shared-slice-read-if2
-    cast-if2
-    returns-2
-    add-if3
-    returns-3
-    add-two-at
-    two-at-requires
-    add-t14
-    returns-4
-    add-if5
-    add-if5-2
-    returns-5
-    returns-6)
+    (tie.spec returns shared_slice_read-if2 cast-if2 returns-2 add-if3 returns-3 add-two_at two_at-requires add-t14 returns-4 add-if5 add-if5-2 returns-5 returns-6)

@@ -6,49 +6,34 @@ use Rattle.stored.proofs.check.form.Tie as tie
 use Rattle.stored.proofs.check.entries_in.Reads as entries_in_reads
 use Rattle.stored.proofs.check.framed.Reads as framed_reads
 
-entries-in-requires : tie.Need-entries-in-requires
-entries-in-requires c κs = search rules
+entries_in-requires : tie.Need-entries_in-entries-requires
+entries_in-requires c κs = search rules
 
 framed-requires : tie.Need-framed-requires
 framed-requires c κs = search rules
 
-enum-known-k : tie.Need-enum-known-k
-enum-known-k c = search rules
+enum_known-k : tie.Need-enum_known-k
+enum_known-k c = search rules
 
-returns : tie.Need-returns
+returns : tie.Need-returns-in-Refused
 returns c =
-    let w = c.before.before.before in
-    let e = w.before in
-    let a = e.before.before.args in
-    form_bad a.n a.bytes.now e.entries-in.result e.entries-in.ensures.0 w.framed.result w.framed.ensures c.before.k.given.0.0 c.before.k.given.1
+    let a = c.args in
+    form_bad a.n a.bytes.now c.entries_in-entries.result c.entries_in-entries.ensures.0 c.framed.result c.framed.ensures c.in-Refused.k c.in-Refused.is
 
-enum_told : tie.Need-enum-told
+enum_told : tie.Need-enum_told-1
 enum_told c = search rules
 
-returns-2 : tie.Need-returns-2
+returns-2 : tie.Need-returns-then-n-entries
 returns-2 c =
-    let t = c.before in
-    let w = t.before.before in
-    let e = w.before in
-    let a = e.before.before.args in
-    other_degree a.n a.bytes.now e.entries-in.result e.entries-in.ensures.0 w.framed.result w.framed.ensures t.enum_told.given.1 c.if1.true
+    let a = c.args in
+    other_degree a.n a.bytes.now c.entries_in-entries.result c.entries_in-entries.ensures.0 c.framed.result c.framed.ensures c.in_default.is c.if-n-entries.true
 
-returns-3 : tie.Need-returns-3
+returns-3 : tie.Need-returns
 returns-3 c =
-    let t = c.before in
-    let w = t.before.before in
-    let e = w.before in
-    let a = e.before.before.args in
-    form_good a.n a.bytes.now e.entries-in.result e.entries-in.ensures.0 w.framed.result w.framed.ensures t.enum_told.given.1 c.if1.false
+    let a = c.args in
+    form_good a.n a.bytes.now c.entries_in-entries.result c.entries_in-entries.ensures.0 c.framed.result c.framed.ensures c.in_default.is c.if-n-entries.false
 
 pub form_spec : {M : Type 1} → statement M
 form_spec =
     tie.close
-    (tie.spec
-    entries-in-requires
-    framed-requires
-    enum-known-k
-    returns
-    enum_told
-    returns-2
-    returns-3)
+    (tie.spec entries_in-requires framed-requires enum_known-k returns enum_told returns-2 returns-3)

@@ -12,99 +12,74 @@ use Rattle.stored.proofs.check.framed.Tie as tie
 use Rattle.stored.proofs.check.field.Reads as field_reads
 use Rattle.stored.proofs.layout.content_length.Reads as content_length_reads
 
-abbrev invariant-loop : tie.invariant-loop
+abbrev invariant-loop : tie.invariant-loop-i
 invariant-loop bytes entries at₀ i₀ at i =
     (i ≤ 5) × (at ≤ 419 * i) × (frame_of entries bytes ≡ fields_verdict (drop i (contents_of entries)) (i + 1) at bytes)
 
-abbrev decreases-loop : tie.decreases-loop
+abbrev decreases-loop : tie.decreases-loop-i
 decreases-loop bytes entries at₀ i₀ at i =
     5 - i
 
-loop-holds : tie.Need-loop-init invariant-loop decreases-loop
+loop-holds : tie.Need-loop-i-init invariant-loop decreases-loop
 loop-holds c = (search rules, search rules, refl)
 
-content-length-requires : tie.Need-content-length-requires invariant-loop decreases-loop
-content-length-requires c κs = search rules
+content_length-requires : tie.Need-content_length-n-requires invariant-loop decreases-loop
+content_length-requires c κs = search rules
 
-add-field : tie.Need-overflow-add-field invariant-loop decreases-loop
+add-field : tie.Need-overflow_add-i invariant-loop decreases-loop
 add-field c = search rules
 
 field-requires : tie.Need-field-requires invariant-loop decreases-loop
 field-requires c κs =
-    let o = c.before.before in
-    let t = c.before.loop-test.true in
-    let b = o.loop.invariant.1 in
-    (omega (arith, t, b), c.content-length.ensures.1)
+    let t = c.loop-i-test.true in
+    let b = c.loop-i.invariant.1 in
+    (omega (arith, t, b), c.content_length-n.ensures.1)
 
-enum-known-k : tie.Need-enum-known-k invariant-loop decreases-loop
-enum-known-k c = search rules
+enum_known-k : tie.Need-enum_known-k invariant-loop decreases-loop
+enum_known-k c = search rules
 
-returns : tie.Need-returns invariant-loop decreases-loop
+returns : tie.Need-returns-in-Refused invariant-loop decreases-loop
 returns c =
-    let f = c.before.before.before in
-    let n = f.before in
-    let o = n.before.before in
-    let s = o.before.before.args.bytes.now in
-    field_bad (contents_of o.before.before.args.entries) s o.loop.i o.loop.at n.content-length.result _ n.before.loop-test.true n.content-length.ensures.0 o.loop.invariant.2 f.field.result f.field.ensures c.before.k.given.0.0 c.before.k.given.1
+    let s = c.args.bytes.now in
+    field_bad (contents_of c.args.entries) s c.loop-i.i c.loop-i.at c.content_length-n.result _ c.loop-i-test.true c.content_length-n.ensures.0 c.loop-i.invariant.2 c.field.result c.field.ensures c.in-Refused.k c.in-Refused.is
 
-enum_told : tie.Need-enum-told invariant-loop decreases-loop
+enum_told : tie.Need-enum_told-1 invariant-loop decreases-loop
 enum_told c = search rules
 
-add_at : tie.Need-overflow-add-at invariant-loop decreases-loop
+add_at : tie.Need-overflow_add-at invariant-loop decreases-loop
 add_at c = search rules
 
-add-at-2 : tie.Need-overflow-add-at-2 invariant-loop decreases-loop
+add-at-2 : tie.Need-overflow_add-at-in-loop-i invariant-loop decreases-loop
 add-at-2 c = search rules
 
-add-i : tie.Need-overflow-add-i invariant-loop decreases-loop
+add-i : tie.Need-overflow_add-i-in-loop-i invariant-loop decreases-loop
 add-i c = search rules
 
-loop-less : tie.Need-loop-smaller invariant-loop decreases-loop
+loop-less : tie.Need-loop-i-smaller invariant-loop decreases-loop
 loop-less c = search rules
 
-loop-again : tie.Need-loop-preserved invariant-loop decreases-loop
+loop-again : tie.Need-loop-i-preserved invariant-loop decreases-loop
 loop-again c =
-    let f = c.before.before in
-    let n = f.before in
-    let o = n.before.before in
-    let s = o.before.before.args.bytes.now in
-    let t = n.before.loop-test.true in
-    let b = o.loop.invariant.1 in
-    let m = n.content-length.ensures.1 in (
+    let s = c.args.bytes.now in
+    let t = c.loop-i-test.true in
+    let b = c.loop-i.invariant.1 in
+    let m = c.content_length-n.ensures.1 in (
       search rules,
       omega (arith, b, m),
-      field_good (contents_of o.before.before.args.entries) s o.loop.i o.loop.at n.content-length.result _ t n.content-length.ensures.0 o.loop.invariant.2 f.field.result f.field.ensures c.enum_told.given.1,
+      field_good (contents_of c.args.entries) s c.loop-i.i c.loop-i.at c.content_length-n.result _ t c.content_length-n.ensures.0 c.loop-i.invariant.2 c.field.result c.field.ensures c.in_default.is,
     )
 
-returns-2 : tie.Need-returns-2 invariant-loop decreases-loop
+returns-2 : tie.Need-returns-then-at-bytes invariant-loop decreases-loop
 returns-2 c =
-    let o = c.before.before in
-    let s = o.before.before.args.bytes.now in
-    left_over (contents_of o.before.before.args.entries) s o.loop.i o.loop.at _ (search rules) o.loop.invariant.2 c.if1.true
+    let s = c.args.bytes.now in
+    left_over (contents_of c.args.entries) s c.loop-i.i c.loop-i.at _ (search rules) c.loop-i.invariant.2 c.if-at-bytes.true
 
-returns-3 : tie.Need-returns-3 invariant-loop decreases-loop
+returns-3 : tie.Need-returns invariant-loop decreases-loop
 returns-3 c =
-    let o = c.before.before in
-    let s = o.before.before.args.bytes.now in
-    all_taken (contents_of o.before.before.args.entries) s o.loop.i o.loop.at _ (search rules) o.loop.invariant.2 c.if1.false
+    let s = c.args.bytes.now in
+    all_taken (contents_of c.args.entries) s c.loop-i.i c.loop-i.at _ (search rules) c.loop-i.invariant.2 c.if-at-bytes.false
 
 pub framed_spec : {M : Type 1} → statement M
 framed_spec =
     tie.close
-    (tie.spec
-    invariant-loop
-    decreases-loop
-    loop-holds
-    content-length-requires
-    add-field
-    field-requires
-    enum-known-k
-    returns
-    enum_told
-    add_at
-    add-at-2
-    add-i
-    loop-less
-    loop-again
-    returns-2
-    returns-3)
+    (tie.spec invariant-loop decreases-loop loop-holds content_length-requires add-field field-requires enum_known-k returns enum_told add_at add-at-2 add-i loop-less loop-again returns-2 returns-3)

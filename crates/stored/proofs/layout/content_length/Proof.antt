@@ -17,14 +17,14 @@ a_list k (suc (suc (suc zero))) h n = refl
 a_list k (suc (suc (suc (suc zero)))) h n = refl
 a_list k (suc (suc (suc (suc (suc i))))) h n = absurd (omega (arith, h))
 
-mul-result : tie.Need-overflow-mul-result
+mul-result : tie.Need-overflow_mul-result
 mul-result c = search rules
 
-returns : tie.Need-returns
+returns : tie.Need-returns-then-i-eq0
 returns c = search rules
 
-returns-2 : tie.Need-returns-2
-returns-2 c = let s = c.before in (a_list s.args.entries s.args.i s.requires.1 c.if1.false, let p = s.requires.0 in omega (arith, p))
+returns-2 : tie.Need-returns-else-i-eq0
+returns-2 c = (a_list c.args.entries c.args.i c.requires.1 c.if-i-eq0.false, let p = c.requires.0 in omega (arith, p))
 
 pub content_length_spec : {M : Type 1} → statement M
 content_length_spec = tie.close (tie.spec mul-result returns returns-2)

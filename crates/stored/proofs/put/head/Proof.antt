@@ -11,26 +11,24 @@ use Rattle.stored.proofs.put.head.Statement.{statement}
 use Rattle.stored.proofs.put.head.Tie as tie
 use Rattle.stored.proofs.put.two.Reads as two_reads
 
-slice-write-bytes : tie.Need-slice-write-bytes
-slice-write-bytes c = search rules
+slice_write-bytes : tie.Need-bounds-bytes-at
+slice_write-bytes c = search rules
 
-add-two : tie.Need-overflow-add-two
+add-two : tie.Need-overflow_add-at
 add-two c = search rules
 
 two-requires : tie.Need-two-requires
-two-requires c κs = let s = c.before.before in let h = s.requires in omega (arith, h, length-set s.args.bytes.now s.args.at s.args.tag)
+two-requires c κs = let h = c.requires in omega (arith, h, length-set c.args.bytes.now c.args.at c.args.tag)
 
-same_length : tie.Need-same-length
+same_length : tie.Need-shape_of-bytes
 same_length c =
-    let w = c.before.before in
-    let a = w.before.before.before.args in
-    ap length w.two.ensures ∙ length-sets (set a.bytes.now a.at a.tag) (a.at + 1) (low_first 2 a.n) ∙ length-set a.bytes.now a.at a.tag
+    let a = c.args in
+    ap length c.two.ensures ∙ length-sets (set a.bytes.now a.at a.tag) (a.at + 1) (low_first 2 a.n) ∙ length-set a.bytes.now a.at a.tag
 
 returns : tie.Need-returns
 returns c =
-    let w = c.before.before in
-    let a = w.before.before.before.args in
-    w.two.ensures ∙ ap (λ k. sets (set a.bytes.now a.at a.tag) k (low_first 2 a.n)) (add-one a.at)
+    let a = c.args in
+    c.two.ensures ∙ ap (λ k. sets (set a.bytes.now a.at a.tag) k (low_first 2 a.n)) (add-one a.at)
 
 pub head_spec : {M : Type 1} → statement M
-head_spec = tie.close (tie.spec slice-write-bytes add-two two-requires same_length returns)
+head_spec = tie.close (tie.spec slice_write-bytes add-two two-requires same_length returns)

@@ -12,29 +12,26 @@ use Rattle.stored.proofs.put.list.Tie as tie
 use Rattle.stored.proofs.put.floats.Reads as floats_reads
 use Rattle.stored.proofs.put.head.Reads as head_reads
 
-mul-head : tie.Need-overflow-mul-head
+mul-head : tie.Need-overflow_mul-list
 mul-head c = search rules
 
 head-requires : tie.Need-head-requires
 head-requires c κs = search rules
 
-add-floats : tie.Need-overflow-add-floats
+add-floats : tie.Need-overflow_add-at
 add-floats c = search rules
 
 floats-requires : tie.Need-floats-requires
 floats-requires c κs = search rules
 
-same_length : tie.Need-same-length
+same_length : tie.Need-shape_of-bytes
 same_length c = search rules
 
 returns : tie.Need-returns
 returns c =
-    let w = c.before.before in
-    let h = w.before.before.before.before in
-    let s = h.before.before.before.before in
-    let a = s.args in
-    w.floats.ensures
-    ∙ ap (λ (l : List ℕ). sets l (a.at + HEAD) (bytes_of a.list.now)) h.head.ensures
+    let a = c.args in
+    c.floats.ensures
+    ∙ ap (λ (l : List ℕ). sets l (a.at + HEAD) (bytes_of a.list.now)) c.head.ensures
     ∙ field_stored a.bytes.now a.at a.tag (bytes_of a.list.now) _ (length_bytes a.list.now)
 
 pub list_spec : {M : Type 1} → statement M

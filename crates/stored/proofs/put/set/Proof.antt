@@ -7,10 +7,10 @@ use Rattle.stored.proofs.put.set.Tie as tie
 use Rattle.stored.proofs.put.list.Reads as list_reads
 use Rattle.stored.proofs.put.year.Reads as year_reads
 
-mul-n : tie.Need-overflow-mul-n
+mul-n : tie.Need-overflow_mul-n
 mul-n c = search rules
 
-add-n : tie.Need-overflow-add-n
+add-n : tie.Need-overflow_add-n
 add-n c = search rules
 
 year-requires : tie.Need-year-requires
@@ -19,59 +19,39 @@ year-requires c κs = search rules
 list-requires : tie.Need-list-requires
 list-requires c κs = search rules
 
-add-list : tie.Need-overflow-add-list
+add-list : tie.Need-overflow_add-n-2
 add-list c = search rules
 
 list-requires-2 : tie.Need-list-requires-2
 list-requires-2 c κs = search rules
 
-mul-list : tie.Need-overflow-mul-list
+mul-list : tie.Need-overflow_mul-n-2
 mul-list c = search rules
 
-add-list-2 : tie.Need-overflow-add-list-2
+add-list-2 : tie.Need-overflow_add-n-3
 add-list-2 c = search rules
 
 list-requires-3 : tie.Need-list-requires-3
 list-requires-3 c κs = search rules
 
-mul-list-2 : tie.Need-overflow-mul-list-2
+mul-list-2 : tie.Need-overflow_mul-n-3
 mul-list-2 c = search rules
 
-add-list-3 : tie.Need-overflow-add-list-3
+add-list-3 : tie.Need-overflow_add-n-4
 add-list-3 c = search rules
 
 list-requires-4 : tie.Need-list-requires-4
 list-requires-4 c κs = search rules
 
-same_length : tie.Need-same-length
+same_length : tie.Need-shape_of-bytes
 same_length c = search rules
 
 returns : tie.Need-returns
 returns c =
-    let w4 = c.before.before in
-    let w3 = w4.before.before.before.before in
-    let w2 = w3.before.before.before.before in
-    let w1 = w2.before.before.before.before in
-    let y = w1.before.before.before.before in
-    let s = y.before.before.before.before.before.before.before in
-    let a = s.args in
-    five_runs a.entries a.epoch_year (lists_of a.g.now a.h.now a.g_dot.now a.h_dot.now) a.bytes.now s.requires.1 _ _ _ _ _ y.year.ensures w1.list.ensures w2.list2.ensures w3.list3.ensures w4.list4.ensures s.requires.0
+    let a = c.args in
+    five_runs a.entries a.epoch_year (lists_of a.g.now a.h.now a.g_dot.now a.h_dot.now) a.bytes.now c.requires.1 _ _ _ _ _ c.year.ensures c.list.ensures c.list-2.ensures c.list-3.ensures c.list-4.ensures c.requires.0
 
 pub set_spec : {M : Type 1} → statement M
 set_spec =
     tie.close
-    (tie.spec
-    mul-n
-    add-n
-    year-requires
-    list-requires
-    add-list
-    list-requires-2
-    mul-list
-    add-list-2
-    list-requires-3
-    mul-list-2
-    add-list-3
-    list-requires-4
-    same_length
-    returns)
+    (tie.spec mul-n add-n year-requires list-requires add-list list-requires-2 mul-list add-list-2 list-requires-3 mul-list-2 add-list-3 list-requires-4 same_length returns)

@@ -14,21 +14,19 @@ use Rattle.stored.proofs.put.two.Reads as two_reads
 head-requires : tie.Need-head-requires
 head-requires c κs = search rules
 
-add-two : tie.Need-overflow-add-two
+add-two : tie.Need-overflow_add-at
 add-two c = search rules
 
 two-requires : tie.Need-two-requires
 two-requires c κs = search rules
 
-same_length : tie.Need-same-length
+same_length : tie.Need-shape_of-bytes
 same_length c = search rules
 
 returns : tie.Need-returns
 returns c =
-    let w = c.before.before in
-    let h = w.before.before.before.before in
-    let a = h.before.before.before.args in
-    w.two.ensures ∙ ap (λ l. sets l (a.at + HEAD) (low_first YEAR a.year)) h.head.ensures ∙ field_stored a.bytes.now a.at a.tag (low_first YEAR a.year) YEAR (length_low YEAR a.year)
+    let a = c.args in
+    c.two.ensures ∙ ap (λ l. sets l (a.at + HEAD) (low_first YEAR a.year)) c.head.ensures ∙ field_stored a.bytes.now a.at a.tag (low_first YEAR a.year) YEAR (length_low YEAR a.year)
 
 pub year_spec : {M : Type 1} → statement M
 year_spec = tie.close (tie.spec head-requires add-two two-requires same_length returns)

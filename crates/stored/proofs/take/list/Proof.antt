@@ -16,78 +16,72 @@ use Rattle.stored.proofs.take.list.Tie as tie
 use Rattle.float32.proofs.from_bits.Reads as from_bits_reads
 use Rattle.stored.proofs.take.four_at.Reads as four_at_reads
 
-abbrev invariant-loop : tie.invariant-loop
+abbrev invariant-loop : tie.invariant-loop-i
 invariant-loop bytes at entries to₀ i₀ to i =
     (i ≤ entries) × (to ≡ floats_in i (drop at bytes) ++ drop i to₀) × (length to ≡ entries)
 
-abbrev decreases-loop : tie.decreases-loop
+abbrev decreases-loop : tie.decreases-loop-i
 decreases-loop bytes at entries to₀ i₀ to i =
     entries - i
 
-loop-holds : tie.Need-loop-init invariant-loop decreases-loop
+loop-holds : tie.Need-loop-i-init invariant-loop decreases-loop
 unfolding floats_in
-loop-holds c = let n = c.before.before.requires.1 in (search rules, refl, n)
+loop-holds c = let n = c.requires.1 in (search rules, refl, n)
 
-mul-four-at : tie.Need-overflow-mul-four-at invariant-loop decreases-loop
-mul-four-at c = search rules
+mul-four_at : tie.Need-overflow_mul-i invariant-loop decreases-loop
+mul-four_at c = search rules
 
-add-four-at : tie.Need-overflow-add-four-at invariant-loop decreases-loop
-add-four-at c =
-    let s = c.before.before.before.before in
-    let p = s.requires.0 in
+add-four_at : tie.Need-overflow_add-at invariant-loop decreases-loop
+add-four_at c =
+    let p = c.requires.0 in
     search rules
 
-four-at-requires : tie.Need-four-at-requires invariant-loop decreases-loop
-four-at-requires c κs =
-    let s = c.before.before.before.before in
-    let p = s.requires.0 in
-    let t = c.loop-test.true in
+four_at-requires : tie.Need-four_at-requires invariant-loop decreases-loop
+four_at-requires c κs =
+    let p = c.requires.0 in
+    let t = c.loop-i-test.true in
     omega (arith, p, t)
 
-from-bits-requires : tie.Need-from-bits-requires invariant-loop decreases-loop
-from-bits-requires c κs = search rules
+from_bits-requires : tie.Need-from_bits-requires invariant-loop decreases-loop
+from_bits-requires c κs = search rules
 
-mul-to : tie.Need-overflow-mul-to invariant-loop decreases-loop
+mul-to : tie.Need-offset_bounds-to-i invariant-loop decreases-loop
 mul-to c = search rules
 
-slice-write-to : tie.Need-slice-write-to invariant-loop decreases-loop
-slice-write-to c = let l = c.before.before.before.loop.invariant.2 in search rules
+slice_write-to : tie.Need-bounds-to-i invariant-loop decreases-loop
+slice_write-to c = let l = c.loop-i.invariant.2 in search rules
 
-add-i : tie.Need-overflow-add-i invariant-loop decreases-loop
+add-i : tie.Need-overflow_add-i invariant-loop decreases-loop
 add-i c = search rules
 
-loop-less : tie.Need-loop-smaller invariant-loop decreases-loop
+loop-less : tie.Need-loop-i-smaller invariant-loop decreases-loop
 loop-less c = search rules
 
-loop-again : tie.Need-loop-preserved invariant-loop decreases-loop
+loop-again : tie.Need-loop-i-preserved invariant-loop decreases-loop
 loop-again c =
-    let o = c.before.before.before in
-    let s = o.before.before.before in
-    let a = s.args in
-    let i = o.loop.i in
-    let n = s.requires.1 in
-    let t = c.before.before.loop-test.true in
+    let a = c.args in
+    let i = c.loop-i.i in
+    let n = c.requires.1 in
+    let t = c.loop-i-test.true in
     let e : c.from_bits.result ≡ float_of (number (take 4 (drop (4 * i) (drop a.at a.bytes.now)))) =
-    c.from_bits.ensures ∙ ap float_of (c.before.four-at.ensures ∙ ap (λ (r : List ℕ). number (take 4 r)) (sym (drop-drop (4 * i) a.at a.bytes.now))) in (
+    c.from_bits.ensures ∙ ap float_of (c.four_at.ensures ∙ ap (λ (r : List ℕ). number (take 4 r)) (sym (drop-drop (4 * i) a.at a.bytes.now))) in (
       search rules,
-      ap (λ (l : List Float). set l i c.from_bits.result) o.loop.invariant.1
+      ap (λ (l : List Float). set l i c.from_bits.result) c.loop-i.invariant.1
           ∙ ap (set (floats_in i (drop a.at a.bytes.now) ++ drop i a.to.now) i) e
           ∙ entry_taken i (drop a.at a.bytes.now) a.to.now (omega (arith, n, t))
           ∙ ap (λ (k : ℕ). floats_in k (drop a.at a.bytes.now) ++ drop k a.to.now) (sym (add-one i)),
-      length-set o.loop.to i c.from_bits.result ∙ o.loop.invariant.2,
+      length-set c.loop-i.to i c.from_bits.result ∙ c.loop-i.invariant.2,
     )
 
-same_length : tie.Need-same-length invariant-loop decreases-loop
-same_length c = c.before.loop.invariant.2 ∙ sym c.before.before.before.before.requires.1
+same_length : tie.Need-shape_of-to invariant-loop decreases-loop
+same_length c = c.loop-i.invariant.2 ∙ sym c.requires.1
 
 returns : tie.Need-returns invariant-loop decreases-loop
 returns c =
-    let o = c.before in
-    let s = o.before.before.before in
-    let a = s.args in
-    let n = s.requires.1 in
-    let i : o.loop.i ≡ a.entries = search rules in
-    o.loop.invariant.1
+    let a = c.args in
+    let n = c.requires.1 in
+    let i : c.loop-i.i ≡ a.entries = search rules in
+    c.loop-i.invariant.1
     ∙ ap (λ (k : ℕ). floats_in k (drop a.at a.bytes.now) ++ drop k a.to.now) i
     ∙ ap (λ (r : List Float). floats_in a.entries (drop a.at a.bytes.now) ++ r) (drop_of_length-le a.to.now {i = a.entries} (omega (arith, n)))
     ∙ append-nil (floats_in a.entries (drop a.at a.bytes.now))
@@ -95,18 +89,4 @@ returns c =
 pub list_spec : {M : Type 1} → statement M
 list_spec =
     tie.close
-    (tie.spec
-    invariant-loop
-    decreases-loop
-    loop-holds
-    mul-four-at
-    add-four-at
-    four-at-requires
-    from-bits-requires
-    mul-to
-    slice-write-to
-    add-i
-    loop-less
-    loop-again
-    same_length
-    returns)
+    (tie.spec invariant-loop decreases-loop loop-holds mul-four_at add-four_at four_at-requires from_bits-requires mul-to slice_write-to add-i loop-less loop-again same_length returns)
