@@ -66,8 +66,8 @@ pub fn pole_parts(
 ) -> Xyz
     ensures { result ≡ pole_parts row w0 w1 s0 s1 u a_over_r_n2 }
 {
-    let v0 = term_of_lem(0.0, s0, row.r0, w0, SinCos { sin: 0.0, cos: 1.0 });
-    let v1 = term_of_lem(1.0, s1, row.r1, w1, u);
+    let v0 = term_of(0.0, s0, row.r0, w0, SinCos { sin: 0.0, cos: 1.0 });
+    let v1 = term_of(1.0, s1, row.r1, w1, u);
     Xyz {
         x: 0.0 - v0.x - v1.x,
         y: a_over_r_n2 * (w1.g * u.sin - w1.h * u.cos) * row.q * s1,

@@ -13,7 +13,7 @@ use tables::N_LEGENDRE;
 
 // An order's terms of the three sums of its degree, s its Schmidt factor and r its P. That of X has its
 // sign turned: the sum takes it away, so that no step has to turn a sign.
-pub fn term_of_lem(order: f32, s: f32, r: PDp, w: Gh, u: SinCos) -> Xyz
+pub fn term_of(order: f32, s: f32, r: PDp, w: Gh, u: SinCos) -> Xyz
     ensures { result ≡ term_of order s r w.g w.h u.sin u.cos }
 {
     let psn = s * r.p;
@@ -52,7 +52,7 @@ pub fn term(
         sin: sin[m],
         cos: cos[m],
     };
-    term_of_lem(os[m], ss[i], r, w, u)
+    term_of(os[m], ss[i], r, w, u)
 }
 
 // The terms of four orders, side by side.

@@ -30,7 +30,7 @@ told s l r f e = subst (λ (v : ReadAnswer). Filled (file_says (lines s)) (said 
 returns : tie.Need-returns-in_default
 returns c =
     let s = c.args.text.now in
-    let l = lists_of c.set-answer.new.1.0 c.set-answer.new.1.1.0 c.set-answer.new.1.1.1.0 c.set-answer.new.1.1.1.1.0 in
+    let l = lists_of c.set-answer.new.g c.set-answer.new.h c.set-answer.new.g_dot c.set-answer.new.h_dot in
     (c.set-answer.ensures.0, subst (λ (r : ReadAnswer). Filled (cof_says s) (said r) l) (sym c.in_default.is) (unread s l c.in_default.field-0 (told s l _ c.set-answer.ensures.1 c.in_default.is)))
 
 check_caps-requires : tie.Need-check_caps-requires
@@ -46,13 +46,13 @@ returns-2 : tie.Need-returns-in-Accepted
 returns-2 c =
     let s = c.args.text.now in
     let e = to_z-of_z w32 c.in-Epoch.year (record { sfits = c.in-Epoch.known_told-1-own.given.0.1 }) in
-    let l = lists_of c.set-answer.new.1.0 c.set-answer.new.1.1.0 c.set-answer.new.1.1.1.0 c.set-answer.new.1.1.1.1.0 in
+    let l = lists_of c.set-answer.new.g c.set-answer.new.h c.set-answer.new.g_dot c.set-answer.new.h_dot in
     (c.set-answer.ensures.0, rw e (within_caps s l _ (told s l _ c.set-answer.ensures.1 c.in-Epoch.is) _ c.check_caps.ensures.0 c.in-Accepted.is))
 
 returns-3 : tie.Need-returns-in-Refused
 returns-3 c =
     let s = c.args.text.now in
-    let l = lists_of c.set-answer.new.1.0 c.set-answer.new.1.1.0 c.set-answer.new.1.1.1.0 c.set-answer.new.1.1.1.1.0 in
+    let l = lists_of c.set-answer.new.g c.set-answer.new.h c.set-answer.new.g_dot c.set-answer.new.h_dot in
     (c.set-answer.ensures.0, over_cap s l _ (told s l _ c.set-answer.ensures.1 c.in-Epoch.is) _ c.check_caps.ensures.0 c.in-Refused.k c.in-Refused.is)
 
 pub checked_spec : {M : Type 1} → statement M

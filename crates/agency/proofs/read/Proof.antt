@@ -18,8 +18,8 @@ ninety_of c =
     let a = c.args in
     each_long a.g.now a.h.now a.g_dot.now a.h_dot.now (sym c.lists_long.ensures.0 ∙ not-false _ c.if-not-lists_long.false-raw)
 
-few : (c : tie.Joined-answer) → c.in-Epoch.in-Epoch-own.count ≤ N_COEFF
-few c = ⊎_elim (λ w. let e = w.2 in omega (arith, e)) (λ w. let e = w.2 in omega (arith, e)) c.in-Epoch.in-Epoch-own.branch-raw
+few : (c : tie.Joined-answer) → c.match-answer.count ≤ N_COEFF
+few c = ⊎_elim (λ w. let e = w.2 in omega (arith, e)) (λ w. let e = w.2 in omega (arith, e)) c.match-answer.branch-raw
 
 lists_long-requires : tie.Need-lists_long-requires
 lists_long-requires c κs = search rules
@@ -83,15 +83,15 @@ returns-2 c =
     let a = c.args in
     let s = a.text.now in
     let held = lists_of a.g.now a.h.now a.g_dot.now a.h_dot.now in
-    let l = lists_of c.checked-answer.new.1.0 c.checked-answer.new.1.1.0 c.checked-answer.new.1.1.1.0 c.checked-answer.new.1.1.1.1.0 in
+    let l = lists_of c.checked-answer.new.g c.checked-answer.new.h c.checked-answer.new.g_dot c.checked-answer.new.h_dot in
     let long = c.lists_long.ensures.0 in
     let r = c.checked-answer.result in
     let f = c.checked-answer.ensures.1 in (
       copied (said r) _ _ _ _ _ _ _ _ c.put.ensures c.put-2.ensures c.put-3.ensures c.put-4.ensures
           ∙ ⊎_elim
-          (λ t. all_put s held _ long c.if-not-lists_long.false-raw l r f c.in-Epoch.in-Epoch-own.count (ninety_of c.before.before.before.before.before.before.before.before.before.before.before.before.before.before.before.before.before.before.before.before.before.before.before.before.before.before) c.checked-answer.ensures.0 t.1.given.0.0 t.1.given.1 t.2)
-          (λ t. nothing_put s held _ long c.if-not-lists_long.false-raw l r f c.in-Epoch.in-Epoch-own.count t.1.given.0.0 t.1.given.1 t.2)
-          c.in-Epoch.in-Epoch-own.branch-raw,
+          (λ t. all_put s held _ long c.if-not-lists_long.false-raw l r f c.match-answer.count (ninety_of c.before.before.before.before.before.before.before.before.before.before.before.before.before.before.before.before.before.before.before.before.before.before.before.before.before.before) c.checked-answer.ensures.0 t.1.given.0.0 t.1.given.1 t.2)
+          (λ t. nothing_put s held _ long c.if-not-lists_long.false-raw l r f c.match-answer.count t.1.given.0.0 t.1.given.1 t.2)
+          c.match-answer.branch-raw,
       refl,
     )
 

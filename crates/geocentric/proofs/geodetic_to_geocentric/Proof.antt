@@ -8,31 +8,30 @@ use Rattle.geocentric.specs.declared.Geocentric.{Geocentric}
 use Rattle.geocentric.proofs.geodetic_to_geocentric.Statement.{statement}
 use Rattle.geocentric.proofs.geodetic_to_geocentric.Tie as tie
 
-near-one-requires : tie.Need-near-one-requires
-near-one-requires c κs = search rules
+near_one-requires : tie.Need-near_one-requires
+near_one-requires c κs = search rules
 
-sqrt-by-guess-requires : tie.Need-sqrt-by-guess-requires
-sqrt-by-guess-requires c κs = search rules
+sqrt_by_guess-requires : tie.Need-sqrt_by_guess-r_c-requires
+sqrt_by_guess-requires c κs = search rules
 
-near-radius-requires : tie.Need-near-radius-requires
-near-radius-requires c κs = search rules
+near_radius-requires : tie.Need-near_radius-requires
+near_radius-requires c κs = search rules
 
-sqrt-by-guess-requires-2 : tie.Need-sqrt-by-guess-requires-2
-sqrt-by-guess-requires-2 c κs = search rules
+sqrt_by_guess-requires-2 : tie.Need-sqrt_by_guess-r-requires
+sqrt_by_guess-requires-2 c κs = search rules
 
 returns : tie.Need-returns
 unfolding flatness curve cosine_factor sine_factor cylinder axis radius_of cos_of sin_of geocentric_of
 returns c =
-    let b = c.before.before in
-    let a = b.before.before.args in
-    let q = b.sqrt_by_guess.result in
-    let r = c.sqrt-by-guess2.result in
+    let a = c.args in
+    let q = c.sqrt_by_guess-r_c.result in
+    let r = c.sqrt_by_guess-r.result in
     let p = mul binary32 (add binary32 (div binary32 wgs84_a q) a.height) a.cos_phi in
     let z = mul binary32 (add binary32 (mul binary32 (div binary32 wgs84_a q) (sub binary32 one wgs84_e2)) a.height) a.sin_phi in
-    let eq : q ≡ sqrt_of (flatness a.sin_phi) = b.sqrt_by_guess.ensures in
-    let er : r ≡ length_of p z = c.sqrt-by-guess2.ensures in
+    let eq : q ≡ sqrt_of (flatness a.sin_phi) = c.sqrt_by_guess-r_c.ensures in
+    let er : r ≡ length_of p z = c.sqrt_by_guess-r.ensures in
     let e : ◌≡◌ {A = Geocentric} (record { r = r; cos_theta = div binary32 z r; sin_theta = div binary32 p r }) (geocentric_of a.height a.sin_phi a.cos_phi) = rw (er, eq) refl in
     e
 
 pub geodetic_to_geocentric_spec : {M : Type 1} → statement M
-geodetic_to_geocentric_spec = tie.close (tie.spec near-one-requires sqrt-by-guess-requires near-radius-requires sqrt-by-guess-requires-2 returns)
+geodetic_to_geocentric_spec = tie.close (tie.spec near_one-requires sqrt_by_guess-requires near_radius-requires sqrt_by_guess-requires-2 returns)

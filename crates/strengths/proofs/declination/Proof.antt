@@ -6,38 +6,30 @@ use borrow.Author.Rules.{rules}
 use Rattle.strengths.proofs.declination.Statement.{statement}
 use Rattle.strengths.proofs.declination.Tie as tie
 
-over-cap-requires : tie.Need-over-cap-requires
-over-cap-requires c κs = search rules
+over_cap-requires : tie.Need-over_cap-requires
+over_cap-requires c κs = search rules
 
-returns : tie.Need-returns
+returns : tie.Need-returns-then-over_cap
 returns c =
-    let s = c.before.before in
-    declination_near s.args.x s.args.y _ s.well-formed.1.0.1 (x_refused s.args.x s.args.y (not-true _ (sym c.before.over_cap.ensures ∙ c.if1.true)))
+    declination_near c.args.x c.args.y _ c.well_formed.1.0.1 (x_refused c.args.x c.args.y (not-true _ (sym c.over_cap.ensures ∙ c.if-over_cap.true)))
 
-over-cap-requires-2 : tie.Need-over-cap-requires-2
-over-cap-requires-2 c κs = search rules
+over_cap-requires-2 : tie.Need-over_cap-requires-2
+over_cap-requires-2 c κs = search rules
 
-returns-2 : tie.Need-returns-2
+returns-2 : tie.Need-returns-then-over_cap-2
 returns-2 c =
-    let b = c.before in
-    let a = b.before in
-    let s = a.before.before in
-    declination_near s.args.x s.args.y _ s.well-formed.1.0.1
-    (y_refused s.args.x s.args.y (not-false _ (sym a.before.over_cap.ensures ∙ a.if1.false)) (not-true _ (sym b.over-cap2.ensures ∙ c.if2.true)))
+    declination_near c.args.x c.args.y _ c.well_formed.1.0.1
+    (y_refused c.args.x c.args.y (not-false _ (sym c.over_cap.ensures ∙ c.if-over_cap.false)) (not-true _ (sym c.over_cap-2.ensures ∙ c.if-over_cap-2.true)))
 
 direction-requires : tie.Need-direction-requires
 direction-requires c κs = search rules
 
-returns-3 : tie.Need-returns-3
+returns-3 : tie.Need-returns
 returns-3 c =
-    let d = c.before in
-    let b = d.before in
-    let a = b.before in
-    let s = a.before.before in
-    declination_near s.args.x s.args.y _ s.well-formed.1.0.1
-    (declined s.args.x s.args.y c.direction.result (not-false _ (sym a.before.over_cap.ensures ∙ a.if1.false)) (not-false _ (sym b.over-cap2.ensures ∙ d.if2.false)) c.direction.ensures.0)
+    declination_near c.args.x c.args.y _ c.well_formed.1.0.1
+    (declined c.args.x c.args.y c.direction.result (not-false _ (sym c.over_cap.ensures ∙ c.if-over_cap.false)) (not-false _ (sym c.over_cap-2.ensures ∙ c.if-over_cap-2.false)) c.direction.ensures.0)
 
 pub declination_spec : {M : Type 1} → statement M
 declination_spec =
     tie.close
-    (tie.spec over-cap-requires returns over-cap-requires-2 returns-2 direction-requires returns-3)
+    (tie.spec over_cap-requires returns over_cap-requires-2 returns-2 direction-requires returns-3)

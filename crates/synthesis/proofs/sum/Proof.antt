@@ -5,8 +5,8 @@ use Rattle.synthesis.proofs.Answers.{answer_close}
 use Rattle.synthesis.proofs.sum.Statement.{statement}
 use Rattle.synthesis.proofs.sum.Tie as tie
 
-sum-by-requires : tie.Need-sum-by-requires
-sum-by-requires c κs = search rules
+sum_by-requires : tie.Need-sum_by-requires
+sum_by-requires c κs = search rules
 
 returns : tie.Need-returns
 returns c =
@@ -14,4 +14,4 @@ returns c =
     (e, (answer_close _ _ e, (refl, refl, refl, refl)))
 
 pub sum_spec : {M : Type 1} → statement M
-sum_spec = tie.close (tie.spec sum-by-requires returns)
+sum_spec = tie.close (tie.spec sum_by-requires returns)

@@ -9,72 +9,51 @@ use Rattle.synthesis.proofs.sum_by.Statement.{statement}
 use Rattle.synthesis.proofs.sum_by.Tie as tie
 
 -- what is lent, and whether its caps are looked at
-abbrev asks : tie.After-lists-by → Lent
+abbrev asks : tie.After-lists_by-lists → Lent
 asks l =
-    let a = l.before.before.before.before.before.args in
+    let a = l.args in
     lent a.colatitude.cos a.colatitude.sin a.longitude.sin a.longitude.cos a.ratio a.offset a.g.now a.h.now a.g_dot.now a.h_dot.now
 
-abbrev looks : tie.After-lists-by → Bool
-looks l = l.before.before.before.before.before.args.look
+abbrev looks : tie.After-lists_by-lists → Bool
+looks l = l.args.look
 
-lists-by-requires : tie.Need-lists-by-requires
-lists-by-requires c κs = search rules
+lists_by-requires : tie.Need-lists_by-lists-requires
+lists_by-requires c κs = search rules
 
-check-numbers-requires : tie.Need-check-numbers-requires
-check-numbers-requires c κs = search rules
+check_numbers-requires : tie.Need-check_numbers-requires
+check_numbers-requires c κs = search rules
 
-enum-known-k : tie.Need-enum-known-k
-enum-known-k c = search rules
+enum_known-k : tie.Need-enum_known-k
+enum_known-k c = search rules
 
-returns : tie.Need-returns
+returns : tie.Need-returns-in-Refused
 returns c =
-    let k = c.before.before.before in
-    refused_numbers (looks k.before) (asks k.before) _ (same k.check-numbers.ensures c.before.k.given.1)
+    refused_numbers (looks c.before.before) (asks c.before.before) _ (same c.check_numbers.ensures c.in-Refused.is)
 
-enum_told : tie.Need-enum-told
+enum_told : tie.Need-enum_told-1
 enum_told c = search rules
 
-enum-known-lists : tie.Need-enum-known-lists
-enum-known-lists c = search rules
+enum_known-lists : tie.Need-enum_known-lists
+enum_known-lists c = search rules
 
-returns-2 : tie.Need-returns-2
+returns-2 : tie.Need-returns-in-Refused-lists
 returns-2 c =
-    let o = c.before.before.before in
-    let k = o.before.before in
-    let l = k.before in
-    refused_lists (looks l) (asks l) (same k.check-numbers.ensures o.enum_told.given.1) _ (same l.lists-by.ensures c.before.lists.given.1)
+    refused_lists (looks c.before.before.before) (asks c.before.before.before) (same c.check_numbers.ensures c.in_default.is) _ (same c.lists_by-lists.ensures c.in-Refused-lists.is)
 
-enum-told-2 : tie.Need-enum-told-2
-enum-told-2 c = search rules
+enum_told-2 : tie.Need-enum_told-in_default-lists
+enum_told-2 c = search rules
 
-synthesize-geocentric-xyz-requires : tie.Need-synthesize-geocentric-xyz-requires
-synthesize-geocentric-xyz-requires c κs =
-    let o = c.before.before in
-    let k = o.before.before in
-    let l = k.before in
-    let n = same k.check-numbers.ensures o.enum_told.given.1 in
-    let e = same l.lists-by.ensures c.enum-told2.given.1 in
-    (lengths_long _ _ _ _ (lengths_by (looks l) (asks l) e), (numbered _ _ _ _ _ _ n).0)
+synthesize_geocentric_xyz-requires : tie.Need-synthesize_geocentric_xyz-requires
+synthesize_geocentric_xyz-requires c κs =
+    let n = same c.check_numbers.ensures c.in_default.is in
+    let e = same c.lists_by-lists.ensures c.in_default-lists.is in
+    (lengths_long _ _ _ _ (lengths_by (looks c.before.before.before) (asks c.before.before.before) e), (numbered _ _ _ _ _ _ n).0)
 
-returns-3 : tie.Need-returns-3
+returns-3 : tie.Need-returns
 returns-3 c =
-    let p = c.before in
-    let o = p.before.before in
-    let k = o.before.before in
-    let l = k.before in
-    summed (looks l) (asks l) (same k.check-numbers.ensures o.enum_told.given.1) (same l.lists-by.ensures p.enum-told2.given.1) _ c.synthesize-geocentric-xyz.ensures
+    summed (looks c.before.before.before.before) (asks c.before.before.before.before) (same c.check_numbers.ensures c.in_default.is) (same c.lists_by-lists.ensures c.in_default-lists.is) _ c.synthesize_geocentric_xyz.ensures
 
 pub sum_by_spec : {M : Type 1} → statement M
 sum_by_spec =
     tie.close
-    (tie.spec
-    lists-by-requires
-    check-numbers-requires
-    enum-known-k
-    returns
-    enum_told
-    enum-known-lists
-    returns-2
-    enum-told-2
-    synthesize-geocentric-xyz-requires
-    returns-3)
+    (tie.spec lists_by-requires check_numbers-requires enum_known-k returns enum_told enum_known-lists returns-2 enum_told-2 synthesize_geocentric_xyz-requires returns-3)

@@ -4,11 +4,11 @@ use borrow.Author.Rules.{rules}
 use Rattle.synthesis.proofs.sum_uncapped.Statement.{statement}
 use Rattle.synthesis.proofs.sum_uncapped.Tie as tie
 
-sum-by-requires : tie.Need-sum-by-requires
-sum-by-requires c κs = search rules
+sum_by-requires : tie.Need-sum_by-requires
+sum_by-requires c κs = search rules
 
 returns : tie.Need-returns
 returns c = (c.sum_by.ensures, (refl, refl, refl, refl))
 
 pub sum_uncapped_spec : {M : Type 1} → statement M
-sum_uncapped_spec = tie.close (tie.spec sum-by-requires returns)
+sum_uncapped_spec = tie.close (tie.spec sum_by-requires returns)

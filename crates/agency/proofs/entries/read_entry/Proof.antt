@@ -41,15 +41,15 @@ abbrev Pairs : List ℕ → ℕ → Float → Float → ℕ → Type 0
 Pairs l from x y next = TakenAt (two_words number_of (words (drop from l))) l (read ((x, y), next))
 
 -- degree and order, main g and h, rate g and h, with the places after them
-place_of : (c : tie.In-Wholes-2) → Places c.args.line.now 0 c.in-Wholes.degree c.in-Wholes.order c.in-Wholes.main
+place_of : (c : tie.In-Wholes) → Places c.args.line.now 0 c.in-Wholes.degree c.in-Wholes.order c.in-Wholes.main
 place_of c = place_told c.args.line.now 0 _ _ c.wholes_at.ensures c.in-Wholes.is
 
-main_of : (c : tie.In-Numbers-2)
+main_of : (c : tie.In-Numbers)
     → Pairs c.args.line.now c.in-Wholes.main c.in-Numbers.g c.in-Numbers.h c.in-Numbers.rate
 main_of c =
     pair_told c.args.line.now c.in-Wholes.main _ _ c.numbers_at.ensures c.in-Numbers.is
 
-rate_of : (c : tie.In-Numbers-numbers_at-2)
+rate_of : (c : tie.In-Numbers-numbers_at)
     → Pairs c.args.line.now c.in-Numbers.rate c.in-Numbers-numbers_at.g_dot c.in-Numbers-numbers_at.h_dot c.in-Numbers-numbers_at.end
 rate_of c =
     pair_told c.args.line.now c.in-Numbers.rate _ _ c.numbers_at-2.ensures c.in-Numbers-numbers_at.is
@@ -59,7 +59,7 @@ returns c =
     bad_place _ (place_told c.args.line.now 0 _ _ c.wholes_at.ensures c.in_default.is)
 
 numbers_at-requires : tie.Need-numbers_at-requires
-numbers_at-requires c κs = (place_of c.before).1
+numbers_at-requires c κs = (place_of c).1
 
 enum_known-g : tie.Need-enum_known-g
 enum_known-g c = search rules
@@ -69,10 +69,10 @@ enum_told-2 c = search rules
 
 returns-2 : tie.Need-returns-in_default-numbers_at
 returns-2 c =
-    bad_main _ _ _ _ (place_of c.before.before.before.before).0 (pair_told c.args.line.now c.in-Wholes.main _ _ c.numbers_at.ensures c.in_default-numbers_at.is)
+    bad_main _ _ _ _ (place_of c.before.before).0 (pair_told c.args.line.now c.in-Wholes.main _ _ c.numbers_at.ensures c.in_default-numbers_at.is)
 
 numbers_at-requires-2 : tie.Need-numbers_at-requires-2
-numbers_at-requires-2 c κs = (main_of c.before).1
+numbers_at-requires-2 c κs = (main_of c).1
 
 enum_known-g_dot : tie.Need-enum_known-g_dot
 enum_known-g_dot c = search rules
@@ -82,21 +82,21 @@ enum_told-3 c = search rules
 
 returns-3 : tie.Need-returns-in_default-numbers_at-2
 returns-3 c =
-    bad_rate _ _ _ _ (place_of c.before.before.before.before.before.before.before.before).0 _ _ _ (main_of c.before.before.before.before).0 (pair_told c.args.line.now c.in-Numbers.rate _ _ c.numbers_at-2.ensures c.in_default-numbers_at-2.is)
+    bad_rate _ _ _ _ (place_of c.before.before.before.before).0 _ _ _ (main_of c.before.before).0 (pair_told c.args.line.now c.in-Numbers.rate _ _ c.numbers_at-2.ensures c.in_default-numbers_at-2.is)
 
 is_end-requires : tie.Need-is_end-requires
-is_end-requires c κs = (rate_of c.before).1
+is_end-requires c κs = (rate_of c).1
 
 returns-4 : tie.Need-returns-then-not-is_end
 returns-4 c =
-    too_many _ _ _ _ (place_of c.before.before.before.before.before.before.before.before.before.before.before).0 _ _ _ (main_of c.before.before.before.before.before.before.before).0 _ _ _ (rate_of c.before.before.before).0 _ c.is_end.ensures c.if-not-is_end.true-raw
+    too_many _ _ _ _ (place_of c.before.before.before.before.before.before).0 _ _ _ (main_of c.before.before.before.before).0 _ _ _ (rate_of c.before.before).0 _ c.is_end.ensures c.if-not-is_end.true-raw
 
 returns-5 : tie.Need-returns
 returns-5 c =
     let f = c.in-Wholes.known_told-1-own.given in
     let n = to_z-of_z w32 c.in-Wholes.degree (record { sfits = f.0.1 }) in
     let m = to_z-of_z w32 c.in-Wholes.order (record { sfits = f.1.0.1 }) in
-    rw (n, m) (good_entry _ _ _ _ (place_of c.before.before.before.before.before.before.before.before.before.before.before).0 _ _ _ (main_of c.before.before.before.before.before.before.before).0 _ _ _ (rate_of c.before.before.before).0 _ c.is_end.ensures c.if-not-is_end.false-raw)
+    rw (n, m) (good_entry _ _ _ _ (place_of c.before.before.before.before.before.before).0 _ _ _ (main_of c.before.before.before.before).0 _ _ _ (rate_of c.before.before).0 _ c.is_end.ensures c.if-not-is_end.false-raw)
 
 pub read_entry_spec : {M : Type 1} → statement M
 read_entry_spec =

@@ -52,7 +52,7 @@ returns c =
 returns-2 : tie.Need-returns-in-Accepted
 returns-2 c =
     let s = c.args.text.now in
-    let l = lists_of c.rows.new.1.1.0 c.rows.new.1.1.1.0 c.rows.new.1.1.1.1.0 c.rows.new.1.1.1.1.1.0 in
+    let l = lists_of c.rows.new.g c.rows.new.h c.rows.new.g_dot c.rows.new.h_dot in
     let t = header_told s _ c.header.ensures c.in-Header.is in
     let e = to_z-of_z w32 c.in-Header.year (record { sfits = c.in-Header.known_told-in-Header-1-own.given.0.1 }) in
     (c.rows.ensures.0, rw e (good_lines _ l _ _ t.0 (rows_told s c.in-Header.next l _ c.rows.ensures.1 c.in-Accepted.is)))
@@ -60,7 +60,7 @@ returns-2 c =
 returns-3 : tie.Need-returns-in-Refused-rows
 returns-3 c =
     let s = c.args.text.now in
-    let l = lists_of c.rows.new.1.1.0 c.rows.new.1.1.1.0 c.rows.new.1.1.1.1.0 c.rows.new.1.1.1.1.1.0 in
+    let l = lists_of c.rows.new.g c.rows.new.h c.rows.new.g_dot c.rows.new.h_dot in
     let t = header_told s _ c.header.ensures c.in-Header.is in
     (c.rows.ensures.0, bad_lines _ l _ _ t.0 c.in-Refused-rows.k (rows_told s c.in-Header.next l _ c.rows.ensures.1 c.in-Refused-rows.is))
 

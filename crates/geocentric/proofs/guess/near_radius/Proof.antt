@@ -17,31 +17,30 @@ below_no_nan nan y h = true≢false (sym h)
 below_no_nan (inf s) y h = tt
 below_no_nan (fin s m e) y h = tt
 
-float-to-float-u : tie.Need-float-to-float-u
-float-to-float-u c =
-    let s = c.before.before.before in
-    and_i (fits binary64 s.args.x) _ (fits_widens s.args.x (subst T (sym s.well-formed.0.1) tt)) (below_no_nan s.args.x _ c.before.if2.true)
+float_to_float-u : tie.Need-float_to_float-u
+float_to_float-u c =
+    and_i (fits binary64 c.args.x) _ (fits_widens c.args.x (subst T (sym c.well_formed.0.1) tt)) (below_no_nan c.args.x _ c.if-x-2.true)
 
-float-to-bits-result : tie.Need-float-to-bits-result
-float-to-bits-result c = same_no_nan _ c.if3.true
+float_to_bits-result : tie.Need-float_to_bits-result
+float_to_bits-result c = same_no_nan _ c.if-t.true
 
-cast-result : tie.Need-overflow-cast-result
+cast-result : tie.Need-overflow_cast-result
 cast-result c = search rules
 
-add-result : tie.Need-overflow-add-result
+add-result : tie.Need-overflow_add-result
 add-result c = search rules
 
-float-from-bits-result : tie.Need-float-from-bits-result
-float-from-bits-result c = low_no_nan _ (omega arith)
+float_from_bits-result : tie.Need-float_from_bits-result
+float_from_bits-result c = low_no_nan _ (omega arith)
 
-returns : tie.Need-returns
+returns : tie.Need-returns-then-t
 returns c = search rules
 
-returns-2 : tie.Need-returns-2
+returns-2 : tie.Need-returns-else-t
 returns-2 c = search rules
 
-returns-3 : tie.Need-returns-3
+returns-3 : tie.Need-returns-else-x
 returns-3 c = search rules
 
 pub near_radius_spec : {M : Type 1} → statement M
-near_radius_spec = tie.close (tie.spec float-to-float-u float-to-bits-result cast-result add-result float-from-bits-result returns returns-2 returns-3)
+near_radius_spec = tie.close (tie.spec float_to_float-u float_to_bits-result cast-result add-result float_from_bits-result returns returns-2 returns-3)

@@ -10,18 +10,17 @@ use borrow.Author.Rules.{rules}
 use Rattle.strengths.proofs.GeomagneticField.declination_uncertainty.Statement.{statement}
 use Rattle.strengths.proofs.GeomagneticField.declination_uncertainty.Tie as tie
 
-error-model-by-epoch-year-requires : tie.Need-error-model-by-epoch-year-requires
-error-model-by-epoch-year-requires c κs = search rules
+error_model_by_epoch_year-requires : tie.Need-error_model_by_epoch_year-requires
+error_model_by_epoch_year-requires c κs = search rules
 
-uncertainty-with-requires : tie.Need-uncertainty-with-requires
-uncertainty-with-requires c κs = search rules
+uncertainty_with-requires : tie.Need-uncertainty_with-requires
+uncertainty_with-requires c κs = search rules
 
 returns : tie.Need-returns
 unfolding uncertainty_says
 returns c =
-    let s = c.before.before in
-    c.uncertainty_with.ensures ∙ ap (λ (p : Paper WmmErrorModel). uncertainty_with p s.args.self) (c.before.error_model_by_epoch_year.ensures ∙ ap error_says (to_z-of_z w32 s.args.epoch_year s.ranges.epoch_year))
+    c.uncertainty_with.ensures ∙ ap (λ (p : Paper WmmErrorModel). uncertainty_with p c.args.self) (c.error_model_by_epoch_year.ensures ∙ ap error_says (to_z-of_z w32 c.args.epoch_year c.ranges.epoch_year))
 
 pub declination_uncertainty_spec : {M : Type 1} → statement M
 declination_uncertainty_spec =
-    tie.close (tie.spec error-model-by-epoch-year-requires uncertainty-with-requires returns)
+    tie.close (tie.spec error_model_by_epoch_year-requires uncertainty_with-requires returns)

@@ -142,5 +142,5 @@ declination_uncertainty_listed_spec 𝓤 𝓛 𝓜 𝓡 =
     entered 𝓤 𝓛.H (triple_of 𝓛 listed.signature (listed.spec 𝓛 𝓜.mem 𝓡.run))
     (tables 𝓤 𝓛.H 𝓜 𝓡 code.env).C (tables 𝓤 𝓛.H 𝓜 𝓡 code.env).Λ #listed code.function (code.unfolded 𝓤 𝓛.H 𝓜 𝓡)
     (listed_meets 𝓛 𝓜.mem 𝓡.run (tables_of 𝓤 𝓛.H 𝓜 (tables 𝓤 𝓛.H 𝓜 𝓡 code.env))
-    (cited 𝓤 𝓛.H (Search 𝓛 𝓜.mem 𝓡.run) 𝓜 𝓡 code.env #search search_def.routine code.calls-models::error-model-listed (search_thm.met 𝓤 𝓛 𝓜 𝓡))
-    (cited 𝓤 𝓛.H (With 𝓛 𝓜.mem 𝓡.run) 𝓜 𝓡 code.env #with with_def.routine code.calls-strengths::GeomagneticField::uncertainty-with (with_thm.met 𝓤 𝓛 𝓜 𝓡)))
+    (cited 𝓤 𝓛.H (Search 𝓛 𝓜.mem 𝓡.run) 𝓜 𝓡 code.env #search search_def.routine code.calls-models::error_model_listed (search_thm.met 𝓤 𝓛 𝓜 𝓡))
+    (cited 𝓤 𝓛.H (With 𝓛 𝓜.mem 𝓡.run) 𝓜 𝓡 code.env #with with_def.routine code.calls-strengths::GeomagneticField::uncertainty_with (with_thm.met 𝓤 𝓛 𝓜 𝓡)))

@@ -9,44 +9,35 @@ use borrow.Author.Rules.{rules}
 use Rattle.strengths.proofs.GeomagneticField.is_usable.Statement.{statement}
 use Rattle.strengths.proofs.GeomagneticField.is_usable.Tie as tie
 
-over-cap-requires : tie.Need-over-cap-requires
-over-cap-requires c κs = search rules
+over_cap-requires : tie.Need-over_cap-requires
+over_cap-requires c κs = search rules
 
-returns : tie.Need-returns
+returns : tie.Need-returns-then-over_cap
 unfolding usable
 returns c =
-    let a = c.before.before.args in
-    simp (not-true (capped max_component a.self.x) (sym c.before.over_cap.ensures ∙ c.if1.true))
+    let a = c.args in
+    simp (not-true (capped max_component a.self.x) (sym c.over_cap.ensures ∙ c.if-over_cap.true))
 
-over-cap-requires-2 : tie.Need-over-cap-requires-2
-over-cap-requires-2 c κs = search rules
+over_cap-requires-2 : tie.Need-over_cap-requires-2
+over_cap-requires-2 c κs = search rules
 
-returns-2 : tie.Need-returns-2
+returns-2 : tie.Need-returns-then-over_cap-2
 unfolding usable
 returns-2 c =
-    let e1 = c.before.before in
-    let a = e1.before.before.args in
-    simp (not-false (capped max_component a.self.x) (sym e1.before.over_cap.ensures ∙ e1.if1.false), not-true (capped max_component a.self.y) (sym c.before.over-cap2.ensures ∙ c.if2.true))
+    let a = c.args in
+    simp (not-false (capped max_component a.self.x) (sym c.over_cap.ensures ∙ c.if-over_cap.false), not-true (capped max_component a.self.y) (sym c.over_cap-2.ensures ∙ c.if-over_cap-2.true))
 
-over-cap-requires-3 : tie.Need-over-cap-requires-3
-over-cap-requires-3 c κs = search rules
+over_cap-requires-3 : tie.Need-over_cap-requires-3
+over_cap-requires-3 c κs = search rules
 
-returns-3 : tie.Need-returns-3
+returns-3 : tie.Need-returns
 unfolding usable
 returns-3 c =
-    let e2 = c.before in
-    let e1 = e2.before.before in
-    let a = e1.before.before.args in
-    let z : c.over-cap3.result ≡ not (capped max_component a.self.z) = c.over-cap3.ensures in
-    simp (not-false (capped max_component a.self.x) (sym e1.before.over_cap.ensures ∙ e1.if1.false), not-false (capped max_component a.self.y) (sym e2.before.over-cap2.ensures ∙ e2.if2.false)) (ap not z ∙ not_not (capped max_component a.self.z))
+    let a = c.args in
+    let z : c.over_cap-3.result ≡ not (capped max_component a.self.z) = c.over_cap-3.ensures in
+    simp (not-false (capped max_component a.self.x) (sym c.over_cap.ensures ∙ c.if-over_cap.false), not-false (capped max_component a.self.y) (sym c.over_cap-2.ensures ∙ c.if-over_cap-2.false)) (ap not z ∙ not_not (capped max_component a.self.z))
 
 pub is_usable_spec : {M : Type 1} → statement M
 is_usable_spec =
     tie.close
-    (tie.spec
-    over-cap-requires
-    returns
-    over-cap-requires-2
-    returns-2
-    over-cap-requires-3
-    returns-3)
+    (tie.spec over_cap-requires returns over_cap-requires-2 returns-2 over_cap-requires-3 returns-3)

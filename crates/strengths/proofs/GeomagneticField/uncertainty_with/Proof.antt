@@ -7,47 +7,33 @@ use borrow.Author.Rules.{rules}
 use Rattle.strengths.proofs.GeomagneticField.uncertainty_with.Statement.{statement}
 use Rattle.strengths.proofs.GeomagneticField.uncertainty_with.Tie as tie
 
-enum-known-figures : tie.Need-enum-known-figures
-enum-known-figures c = search rules
+enum_known-figures : tie.Need-enum_known-figures
+enum_known-figures c = search rules
 
-enum-known-figures-2 : tie.Need-enum-known-figures-2
-enum-known-figures-2 c = search rules
+enum_known-figures-2 : tie.Need-enum_known-figures-in-Model-1
+enum_known-figures-2 c = search rules
 
-is-usable-requires : tie.Need-is-usable-requires
-is-usable-requires c κs = search rules
+is_usable-requires : tie.Need-is_usable-requires
+is_usable-requires c κs = search rules
 
-returns : tie.Need-returns
+returns : tie.Need-returns-then-not-is_usable
 returns c =
-    let u = c.before in
-    let m = u.before.before in
-    uncertainty_unusable _ _ _ (ap error_said m.figures2.given.1) (sym u.is-usable.ensures ∙ not-true _ c.if1.true)
+    uncertainty_unusable _ _ _ (ap error_said c.in-Model.is) (sym c.is_usable.ensures ∙ not-true _ c.if-not-is_usable.true-raw)
 
-hypot-requires : tie.Need-hypot-requires
+hypot-requires : tie.Need-hypot-h-requires
 hypot-requires c κs = search rules
 
 uncertainty-requires : tie.Need-uncertainty-requires
 uncertainty-requires c κs = search rules
 
-returns-2 : tie.Need-returns-2
-returns-2 c = uncertainty_refused _ _ c.before.figures.given.0.0 (ap error_said c.before.figures.given.1)
+returns-2 : tie.Need-returns-in-Refused
+returns-2 c = uncertainty_refused _ _ c.in-Refused.k (ap error_said c.in-Refused.is)
 
-returns-3 : tie.Need-returns-3
+returns-3 : tie.Need-returns-else-not-is_usable
 returns-3 c =
-    let h = c.before in
-    let e = h.before in
-    let u = e.before in
-    let m = u.before.before in
-    uncertainty_shown _ _ _ (ap error_said m.figures2.given.1) (sym u.is-usable.ensures ∙ not-false _ e.if1.false) _ h.hypot.ensures _ c.uncertainty.ensures
+    uncertainty_shown _ _ _ (ap error_said c.in-Model.is) (sym c.is_usable.ensures ∙ not-false _ c.if-not-is_usable.false-raw) _ c.hypot-h.ensures _ c.uncertainty.ensures
 
 pub uncertainty_with_spec : {M : Type 1} → statement M
 uncertainty_with_spec =
     tie.close
-    (tie.spec
-    enum-known-figures
-    enum-known-figures-2
-    is-usable-requires
-    returns
-    hypot-requires
-    uncertainty-requires
-    returns-2
-    returns-3)
+    (tie.spec enum_known-figures enum_known-figures-2 is_usable-requires returns hypot-requires uncertainty-requires returns-2 returns-3)

@@ -11,82 +11,55 @@ use Rattle.strengths.proofs.grid.grid_variation.Tie as tie
 outside-requires : tie.Need-outside-requires
 outside-requires c κs = search rules
 
-returns : tie.Need-returns
+returns : tie.Need-returns-then-outside
 unfolding grid_says
 returns c =
-    let a = c.before.before.args in
-    simp (not-true (between (neg d90) d90 a.latitude-deg) (sym c.before.outside.ensures ∙ c.if1.true))
+    let a = c.args in
+    simp (not-true (between (neg d90) d90 a.latitude_deg) (sym c.outside.ensures ∙ c.if-outside.true))
 
 outside-requires-2 : tie.Need-outside-requires-2
 outside-requires-2 c κs = search rules
 
-returns-2 : tie.Need-returns-2
+returns-2 : tie.Need-returns-then-outside-2
 unfolding grid_says
 returns-2 c =
-    let e1 = c.before.before in
-    let a = e1.before.before.args in
-    simp (not-false (between (neg d90) d90 a.latitude-deg) (sym e1.before.outside.ensures ∙ e1.if1.false), not-true (between (neg d180) d180 a.longitude-deg) (sym c.before.outside2.ensures ∙ c.if2.true))
+    let a = c.args in
+    simp (not-false (between (neg d90) d90 a.latitude_deg) (sym c.outside.ensures ∙ c.if-outside.false), not-true (between (neg d180) d180 a.longitude_deg) (sym c.outside-2.ensures ∙ c.if-outside-2.true))
 
 outside-requires-3 : tie.Need-outside-requires-3
 outside-requires-3 c κs = search rules
 
-returns-3 : tie.Need-returns-3
+returns-3 : tie.Need-returns-then-outside-3
 unfolding grid_says
 returns-3 c =
-    let e2 = c.before.before in
-    let e1 = e2.before.before in
-    let a = e1.before.before.args in
-    simp (not-false (between (neg d90) d90 a.latitude-deg) (sym e1.before.outside.ensures ∙ e1.if1.false), not-false (between (neg d180) d180 a.longitude-deg) (sym e2.before.outside2.ensures ∙ e2.if2.false), not-true (between (neg d180) d180 a.declination-deg) (sym c.before.outside3.ensures ∙ c.if3.true))
+    let a = c.args in
+    simp (not-false (between (neg d90) d90 a.latitude_deg) (sym c.outside.ensures ∙ c.if-outside.false), not-false (between (neg d180) d180 a.longitude_deg) (sym c.outside-2.ensures ∙ c.if-outside-2.false), not-true (between (neg d180) d180 a.declination-deg) (sym c.outside-3.ensures ∙ c.if-outside-3.true))
 
-wrap-to-180-requires : tie.Need-wrap-to-180-requires
-wrap-to-180-requires c κs = search rules
+wrap_to_180-requires : tie.Need-wrap_to_180-requires
+wrap_to_180-requires c κs = search rules
 
-returns-4 : tie.Need-returns-4
+returns-4 : tie.Need-returns-then-latitude_deg
 unfolding grid_says variation_of
 returns-4 c =
-    let e4 = c.before in
-    let e3 = e4.before in
-    let e2 = e3.before.before in
-    let e1 = e2.before.before in
-    let a = e1.before.before.args in
-    simp (not-false (between (neg d90) d90 a.latitude-deg) (sym e1.before.outside.ensures ∙ e1.if1.false), not-false (between (neg d180) d180 a.longitude-deg) (sym e2.before.outside2.ensures ∙ e2.if2.false), not-false (between (neg d180) d180 a.declination-deg) (sym e3.before.outside3.ensures ∙ e3.if3.false), e4.if4.true) (rw c.wrap-to-180.ensures)
+    let a = c.args in
+    simp (not-false (between (neg d90) d90 a.latitude_deg) (sym c.outside.ensures ∙ c.if-outside.false), not-false (between (neg d180) d180 a.longitude_deg) (sym c.outside-2.ensures ∙ c.if-outside-2.false), not-false (between (neg d180) d180 a.declination-deg) (sym c.outside-3.ensures ∙ c.if-outside-3.false), c.if-latitude_deg.true) (rw c.wrap_to_180.ensures)
 
-wrap-to-180-requires-2 : tie.Need-wrap-to-180-requires-2
-wrap-to-180-requires-2 c κs = search rules
+wrap_to_180-requires-2 : tie.Need-wrap_to_180-requires-then-latitude_deg-2
+wrap_to_180-requires-2 c κs = search rules
 
-returns-5 : tie.Need-returns-5
+returns-5 : tie.Need-returns-then-latitude_deg-2
 unfolding grid_says variation_of
 returns-5 c =
-    let e5 = c.before in
-    let e4 = e5.before in
-    let e3 = e4.before in
-    let e2 = e3.before.before in
-    let e1 = e2.before.before in
-    let a = e1.before.before.args in
-    simp (not-false (between (neg d90) d90 a.latitude-deg) (sym e1.before.outside.ensures ∙ e1.if1.false), not-false (between (neg d180) d180 a.longitude-deg) (sym e2.before.outside2.ensures ∙ e2.if2.false), not-false (between (neg d180) d180 a.declination-deg) (sym e3.before.outside3.ensures ∙ e3.if3.false), e4.if4.false, e5.if5.true) (rw c.wrap-to-1802.ensures)
+    let a = c.args in
+    simp (not-false (between (neg d90) d90 a.latitude_deg) (sym c.outside.ensures ∙ c.if-outside.false), not-false (between (neg d180) d180 a.longitude_deg) (sym c.outside-2.ensures ∙ c.if-outside-2.false), not-false (between (neg d180) d180 a.declination-deg) (sym c.outside-3.ensures ∙ c.if-outside-3.false), c.if-latitude_deg.false, c.if-latitude_deg-2.true) (rw c.wrap_to_180-then-latitude_deg-2.ensures)
 
-returns-6 : tie.Need-returns-6
+returns-6 : tie.Need-returns
 unfolding grid_says variation_of
 returns-6 c =
-    let e4 = c.before in
-    let e3 = e4.before in
-    let e2 = e3.before.before in
-    let e1 = e2.before.before in
-    let a = e1.before.before.args in
-    simp (not-false (between (neg d90) d90 a.latitude-deg) (sym e1.before.outside.ensures ∙ e1.if1.false), not-false (between (neg d180) d180 a.longitude-deg) (sym e2.before.outside2.ensures ∙ e2.if2.false), not-false (between (neg d180) d180 a.declination-deg) (sym e3.before.outside3.ensures ∙ e3.if3.false), e4.if4.false, c.if5.false)
+    let a = c.args in
+    simp (not-false (between (neg d90) d90 a.latitude_deg) (sym c.outside.ensures ∙ c.if-outside.false), not-false (between (neg d180) d180 a.longitude_deg) (sym c.outside-2.ensures ∙ c.if-outside-2.false), not-false (between (neg d180) d180 a.declination-deg) (sym c.outside-3.ensures ∙ c.if-outside-3.false), c.if-latitude_deg.false, c.if-latitude_deg-2.false)
 
 pub grid_variation_spec : {M : Type 1} → statement M
 grid_variation_spec =
     tie.close
-    (tie.spec
-    outside-requires
-    returns
-    outside-requires-2
-    returns-2
-    outside-requires-3
-    returns-3
-    wrap-to-180-requires
-    returns-4
-    wrap-to-180-requires-2
-    returns-5
-    returns-6)
+    (tie.spec outside-requires returns outside-requires-2 returns-2 outside-requires-3 returns-3 wrap_to_180-requires returns-4 wrap_to_180-requires-2 returns-5 returns-6)

@@ -16,14 +16,14 @@ kept : (x t : Float) → t ≡ crate_wrapped x → eq t (neg d180) ≡ false →
 unfolding wrapped
 kept x t e s = rw (sym e, s)
 
-crate-wrap-to-180-requires : tie.Need-crate-wrap-to-180-requires
-crate-wrap-to-180-requires c κs = search rules
+crate_wrap_to_180-requires : tie.Need-crate_wrap_to_180-turned-requires
+crate_wrap_to_180-requires c κs = search rules
 
-returns : tie.Need-returns
-returns c = named _ c.before.crate-wrap-to-180.result c.before.crate-wrap-to-180.ensures c.if1.true
+returns : tie.Need-returns-then-turned
+returns c = named _ c.crate_wrap_to_180-turned.result c.crate_wrap_to_180-turned.ensures c.if-turned.true
 
-returns-2 : tie.Need-returns-2
-returns-2 c = kept _ c.before.crate-wrap-to-180.result c.before.crate-wrap-to-180.ensures c.if1.false
+returns-2 : tie.Need-returns-else-turned
+returns-2 c = kept _ c.crate_wrap_to_180-turned.result c.crate_wrap_to_180-turned.ensures c.if-turned.false
 
 pub wrap_to_180_spec : {M : Type 1} → statement M
-wrap_to_180_spec = tie.close (tie.spec crate-wrap-to-180-requires returns returns-2)
+wrap_to_180_spec = tie.close (tie.spec crate_wrap_to_180-requires returns returns-2)

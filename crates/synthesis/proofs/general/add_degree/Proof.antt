@@ -11,13 +11,13 @@ use Rattle.synthesis.specs.Code.{add_degree}
 use Rattle.synthesis.proofs.general.add_degree.Statement.{statement}
 use Rattle.synthesis.proofs.general.add_degree.Tie as tie
 
-int-to-float-t9 : tie.Need-int-to-float-t9
+int_to_float-t9 : tie.Need-int_to_float-result
 unfolding in_float
-int-to-float-t9 c = le→leb c.before.before.before.before.before.args.n (2 ^ 24) (omega arith)
+int_to_float-t9 c = le→leb c.args.n (2 ^ 24) (omega arith)
 
 returns : tie.Need-returns
 unfolding add_degree rounded lit
 returns c = rw (← lit_one) refl
 
 pub add_degree_spec : {M : Type 1} → statement M
-add_degree_spec = tie.close (tie.spec int-to-float-t9 returns)
+add_degree_spec = tie.close (tie.spec int_to_float-t9 returns)

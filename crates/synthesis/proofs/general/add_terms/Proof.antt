@@ -12,57 +12,39 @@ use Rattle.exact.proofs.Wholes.{lit_zero}
 use Rattle.synthesis.proofs.general.add_terms.Statement.{statement}
 use Rattle.synthesis.proofs.general.add_terms.Tie as tie
 
-abbrev invariant-loop : tie.invariant-loop
+abbrev invariant-loop : tie.invariant-loop-m
 invariant-loop i count t x₀ y₀ z₀ m₀ x y z m =
     (m ≤ count) × ((j : Input Float) → (x ≡ total rounded j (λ l. rounded.opp (cell t 0 (i + l))) m) × (y ≡ total rounded j (λ l. cell t 1 (i + l)) m) × (z ≡ total rounded j (λ l. cell t 2 (i + l)) m))
 
-abbrev decreases-loop : tie.decreases-loop
+abbrev decreases-loop : tie.decreases-loop-m
 decreases-loop i count t x₀ y₀ z₀ m₀ x y z m = count - m
 
-loop-holds : tie.Need-loop-init invariant-loop decreases-loop
+loop-holds : tie.Need-loop-m-init invariant-loop decreases-loop
 unfolding total rounded
 loop-holds c = (search rules, λ j. (lit_zero, lit_zero, lit_zero))
 
-add-x : tie.Need-overflow-add-x invariant-loop decreases-loop
+add-x : tie.Need-overflow_add-x invariant-loop decreases-loop
 add-x c = search rules
 
-mul-x : tie.Need-overflow-mul-x invariant-loop decreases-loop
+mul-x : tie.Need-offset_bounds-t-i invariant-loop decreases-loop
 mul-x c = search rules
 
-index-1-x : tie.Need-bounds-1-x invariant-loop decreases-loop
-index-1-x c = search rules
-
-index-2-x : tie.Need-bounds-2-x invariant-loop decreases-loop
-index-2-x c = search rules
-
-add-y : tie.Need-overflow-add-y invariant-loop decreases-loop
+add-y : tie.Need-overflow_add-y invariant-loop decreases-loop
 add-y c = search rules
 
-mul-y : tie.Need-overflow-mul-y invariant-loop decreases-loop
+mul-y : tie.Need-offset_bounds-t-i-in-loop-m invariant-loop decreases-loop
 mul-y c = search rules
 
-index-1-y : tie.Need-bounds-1-y invariant-loop decreases-loop
-index-1-y c = search rules
-
-index-2-y : tie.Need-bounds-2-y invariant-loop decreases-loop
-index-2-y c = search rules
-
-add-z : tie.Need-overflow-add-z invariant-loop decreases-loop
+add-z : tie.Need-overflow_add-z invariant-loop decreases-loop
 add-z c = search rules
 
-mul-z : tie.Need-overflow-mul-z invariant-loop decreases-loop
+mul-z : tie.Need-offset_bounds-t-i-in-loop-m-2 invariant-loop decreases-loop
 mul-z c = search rules
 
-index-1-z : tie.Need-bounds-1-z invariant-loop decreases-loop
-index-1-z c = search rules
-
-index-2-z : tie.Need-bounds-2-z invariant-loop decreases-loop
-index-2-z c = search rules
-
-add-m : tie.Need-overflow-add-m invariant-loop decreases-loop
+add-m : tie.Need-overflow_step-m invariant-loop decreases-loop
 add-m c = search rules
 
-loop-less : tie.Need-loop-smaller invariant-loop decreases-loop
+loop-less : tie.Need-loop-m-smaller invariant-loop decreases-loop
 loop-less c = search rules
 
 -- one term taken away, over variables
@@ -70,39 +52,37 @@ one_less : (j : Input Float) (f : ℕ → Float) (m : ℕ) (x : Float) → x ≡
 unfolding total rounded sub
 one_less j f m x e = rw (add-one, e) refl
 
-loop-again : tie.Need-loop-preserved invariant-loop decreases-loop
+loop-again : tie.Need-loop-m-preserved invariant-loop decreases-loop
 unfolding total rounded
 loop-again c =
-    let l = c.before.before.before.before in
-    let a = l.before.args in
-    (search rules, λ j. (one_less j (λ k. cell a.t.now 0 (a.i + k)) l.loop.m l.loop.x (l.loop.invariant.1 j).0, rw (add-one, (l.loop.invariant.1 j).1), rw (add-one, (l.loop.invariant.1 j).2)))
+    let a = c.args in
+    (search rules, λ j. (one_less j (λ k. cell a.t.now 0 (a.i + k)) c.loop-m.m c.loop-m.x (c.loop-m.invariant.1 j).0, rw (add-one, (c.loop-m.invariant.1 j).1), rw (add-one, (c.loop-m.invariant.1 j).2)))
 
 returns : tie.Need-returns invariant-loop decreases-loop
 returns c =
-    let l = c.before.loop in
-    λ j. let e : l.m ≡ c.before.before.args.count = omega arith in
+    let l = c.loop-m in
+    λ j. let e : l.m ≡ c.args.count = omega arith in
     rw ((l.invariant.1 j).0, (l.invariant.1 j).1, (l.invariant.1 j).2, e)
+
+bounds-t-0 : tie.Need-bounds-t-0 invariant-loop decreases-loop
+bounds-t-0 c = search rules
+
+bounds-t-i : tie.Need-bounds-t-i invariant-loop decreases-loop
+bounds-t-i c = search rules
+
+bounds-t-1 : tie.Need-bounds-t-1 invariant-loop decreases-loop
+bounds-t-1 c = search rules
+
+bounds-t-i-in-loop-m : tie.Need-bounds-t-i-in-loop-m invariant-loop decreases-loop
+bounds-t-i-in-loop-m c = search rules
+
+bounds-t-2 : tie.Need-bounds-t-2 invariant-loop decreases-loop
+bounds-t-2 c = search rules
+
+bounds-t-i-in-loop-m-2 : tie.Need-bounds-t-i-in-loop-m-2 invariant-loop decreases-loop
+bounds-t-i-in-loop-m-2 c = search rules
 
 pub add_terms_spec : {M : Type 1} → statement M
 add_terms_spec =
     tie.close
-    (tie.spec
-    invariant-loop
-    decreases-loop
-    loop-holds
-    add-x
-    mul-x
-    index-1-x
-    index-2-x
-    add-y
-    mul-y
-    index-1-y
-    index-2-y
-    add-z
-    mul-z
-    index-1-z
-    index-2-z
-    add-m
-    loop-less
-    loop-again
-    returns)
+    (tie.spec invariant-loop decreases-loop loop-holds add-x mul-x bounds-t-0 bounds-t-i add-y mul-y bounds-t-1 bounds-t-i-in-loop-m add-z mul-z bounds-t-2 bounds-t-i-in-loop-m-2 add-m loop-less loop-again returns)

@@ -3,46 +3,35 @@ use borrow.Author.Rules.{rules}
 use Rattle.synthesis.proofs.general.put_last.Statement.{statement}
 use Rattle.synthesis.proofs.general.put_last.Tie as tie
 
-legendre-index-requires : tie.Need-legendre-index-requires
-legendre-index-requires c κs = search rules
+legendre_index-requires : tie.Need-legendre_index-i-requires
+legendre_index-requires c κs = search rules
 
-mul-t21 : tie.Need-overflow-mul-t21
+mul-t21 : tie.Need-offset_bounds-start_p-m
 mul-t21 c = search rules
 
-element-copy-out-t24 : tie.Need-element-copy-out-t24
-element-copy-out-t24 c = search rules
+element_copy_out-t24 : tie.Need-bounds-start_p-m
+element_copy_out-t24 c = search rules
 
-mul-t25 : tie.Need-overflow-mul-t25
+mul-t25 : tie.Need-offset_bounds-start_dp-m
 mul-t25 c = search rules
 
-element-copy-out-t28 : tie.Need-element-copy-out-t28
-element-copy-out-t28 c = search rules
+element_copy_out-t28 : tie.Need-bounds-start_dp-m
+element_copy_out-t28 c = search rules
 
-lower-lane-requires : tie.Need-lower-lane-requires
-lower-lane-requires c κs = search rules
+lower_lane-requires : tie.Need-lower_lane-r-requires
+lower_lane-requires c κs = search rules
 
-term-requires : tie.Need-term-requires
+term-requires : tie.Need-term-v-requires
 term-requires c κs = search rules
 
-put-term-requires : tie.Need-put-term-requires
-put-term-requires c κs = search rules
+put_term-requires : tie.Need-put_term-requires
+put_term-requires c κs = search rules
 
 returns : tie.Need-returns
 returns c =
-    let v = c.before.before in
-    let r = v.before in
-    rw (c.put-term.ensures, v.term.ensures, r.lower-lane.ensures, r.before.before.before.legendre-index.ensures.0)
+    rw (c.put_term.ensures, c.term-v.ensures, c.lower_lane-r.ensures, c.legendre_index-i.ensures.0)
 
 pub put_last_spec : {M : Type 1} → statement M
 put_last_spec =
     tie.close
-    (tie.spec
-    legendre-index-requires
-    mul-t21
-    element-copy-out-t24
-    mul-t25
-    element-copy-out-t28
-    lower-lane-requires
-    term-requires
-    put-term-requires
-    returns)
+    (tie.spec legendre_index-requires mul-t21 element_copy_out-t24 mul-t25 element_copy_out-t28 lower_lane-requires term-requires put_term-requires returns)

@@ -13,93 +13,73 @@ use Rattle.synthesis.proofs.Filled.{next_p, next_dp}
 use Rattle.synthesis.proofs.lanes.start_values.Statement.{statement}
 use Rattle.synthesis.proofs.lanes.start_values.Tie as tie
 
-abbrev invariant-loop : tie.invariant-loop
+abbrev invariant-loop : tie.invariant-loop-m
 invariant-loop cos_theta sin_theta p₀ dp₀ m₀ p dp m =
     (0 < m) × (m < M_LEN + 1) × (p ≡ first (λ k. (start_at cos_theta sin_theta k).fst) m ++ drop m p₀) × (dp ≡ first (λ k. (start_at cos_theta sin_theta k).snd) m ++ drop m dp₀)
 
-abbrev decreases-loop : tie.decreases-loop
+abbrev decreases-loop : tie.decreases-loop-m
 decreases-loop cos_theta sin_theta p₀ dp₀ m₀ p dp m =
     M_LEN - m
 
-array-write-p : tie.Need-array-write-p invariant-loop decreases-loop
-array-write-p c = search rules
+array_write-p : tie.Need-bounds-p-0 invariant-loop decreases-loop
+array_write-p c = search rules
 
-loop-holds : tie.Need-loop-init invariant-loop decreases-loop
+loop-holds : tie.Need-loop-m-init invariant-loop decreases-loop
 unfolding first start_at lit of_int of_bits round
 loop-holds c = (search rules, search rules, refl, refl)
 
-sub-a : tie.Need-overflow-sub-a invariant-loop decreases-loop
+sub-a : tie.Need-overflow_sub-a invariant-loop decreases-loop
 sub-a c = search rules
 
-mul-a : tie.Need-overflow-mul-a invariant-loop decreases-loop
+mul-a : tie.Need-offset_bounds-p-m invariant-loop decreases-loop
 mul-a c = search rules
 
-array-read-a : tie.Need-array-read-a invariant-loop decreases-loop
-array-read-a c = search rules
+array_read-a : tie.Need-bounds-p-m invariant-loop decreases-loop
+array_read-a c = search rules
 
-sub-b : tie.Need-overflow-sub-b invariant-loop decreases-loop
+sub-b : tie.Need-overflow_sub-b invariant-loop decreases-loop
 sub-b c = search rules
 
-mul-b : tie.Need-overflow-mul-b invariant-loop decreases-loop
+mul-b : tie.Need-offset_bounds-dp-m invariant-loop decreases-loop
 mul-b c = search rules
 
-array-read-b : tie.Need-array-read-b invariant-loop decreases-loop
-array-read-b c = search rules
+array_read-b : tie.Need-bounds-dp-m invariant-loop decreases-loop
+array_read-b c = search rules
 
-mul-p : tie.Need-overflow-mul-p invariant-loop decreases-loop
+mul-p : tie.Need-offset_bounds-p-m-in-loop-m invariant-loop decreases-loop
 mul-p c = search rules
 
-array-write-p-2 : tie.Need-array-write-p-2 invariant-loop decreases-loop
-array-write-p-2 c = search rules
+array_write-p-2 : tie.Need-bounds-p-m-in-loop-m invariant-loop decreases-loop
+array_write-p-2 c = search rules
 
-mul-dp : tie.Need-overflow-mul-dp invariant-loop decreases-loop
+mul-dp : tie.Need-offset_bounds-dp-m-in-loop-m invariant-loop decreases-loop
 mul-dp c = search rules
 
-array-write-dp : tie.Need-array-write-dp invariant-loop decreases-loop
-array-write-dp c = search rules
+array_write-dp : tie.Need-bounds-dp-m-in-loop-m invariant-loop decreases-loop
+array_write-dp c = search rules
 
-add-m : tie.Need-overflow-add-m invariant-loop decreases-loop
+add-m : tie.Need-overflow_step-m invariant-loop decreases-loop
 add-m c = search rules
 
-loop-less : tie.Need-loop-smaller invariant-loop decreases-loop
+loop-less : tie.Need-loop-m-smaller invariant-loop decreases-loop
 loop-less c = search rules
 
-loop-again : tie.Need-loop-preserved invariant-loop decreases-loop
+loop-again : tie.Need-loop-m-preserved invariant-loop decreases-loop
 loop-again c =
-    let l = c.before in
-    let a = l.before.args in (
+    let a = c.args in (
       search rules,
       search rules,
-      next_p a.cos_theta a.sin_theta l.loop.p l.loop.dp _ _ l.loop.m (search rules) (search rules) l.loop.invariant.2 l.loop.invariant.3,
-      next_dp a.cos_theta a.sin_theta l.loop.p l.loop.dp _ _ l.loop.m (search rules) (search rules) l.loop.invariant.2 l.loop.invariant.3,
+      next_p a.cos_theta a.sin_theta c.loop-m.p c.loop-m.dp _ _ c.loop-m.m (search rules) (search rules) c.loop-m.invariant.2 c.loop-m.invariant.3,
+      next_dp a.cos_theta a.sin_theta c.loop-m.p c.loop-m.dp _ _ c.loop-m.m (search rules) (search rules) c.loop-m.invariant.2 c.loop-m.invariant.3,
     )
 
 returns : tie.Need-returns invariant-loop decreases-loop
 unfolding starts_of
 returns c =
-    let l = c.before in
-    let e : l.loop.m ≡ M_LEN = omega arith in
-    simp (l.loop.invariant.2, l.loop.invariant.3, e, append-nil)
+    let e : c.loop-m.m ≡ M_LEN = omega arith in
+    simp (c.loop-m.invariant.2, c.loop-m.invariant.3, e, append-nil)
 
 pub start_values_spec : {M : Type 1} → statement M
 start_values_spec =
     tie.close
-    (tie.spec
-    invariant-loop
-    decreases-loop
-    array-write-p
-    loop-holds
-    sub-a
-    mul-a
-    array-read-a
-    sub-b
-    mul-b
-    array-read-b
-    mul-p
-    array-write-p-2
-    mul-dp
-    array-write-dp
-    add-m
-    loop-less
-    loop-again
-    returns)
+    (tie.spec invariant-loop decreases-loop array_write-p loop-holds sub-a mul-a array_read-a sub-b mul-b array_read-b mul-p array_write-p-2 mul-dp array_write-dp add-m loop-less loop-again returns)

@@ -11,13 +11,13 @@ use Rattle.synthesis.specs.Code.{add_pole_degree}
 use Rattle.synthesis.proofs.near_pole.add_pole_degree.Statement.{statement}
 use Rattle.synthesis.proofs.near_pole.add_pole_degree.Tie as tie
 
-int-to-float-t8 : tie.Need-int-to-float-t8
+int_to_float-t8 : tie.Need-int_to_float-result
 unfolding in_float
-int-to-float-t8 c = le→leb c.before.before.before.before.before.args.n (2 ^ 24) (omega arith)
+int_to_float-t8 c = le→leb c.args.n (2 ^ 24) (omega arith)
 
 returns : tie.Need-returns
 unfolding add_pole_degree rounded lit
 returns c = rw (← lit_one) refl
 
 pub add_pole_degree_spec : {M : Type 1} → statement M
-add_pole_degree_spec = tie.close (tie.spec int-to-float-t8 returns)
+add_pole_degree_spec = tie.close (tie.spec int_to_float-t8 returns)

@@ -3,49 +3,38 @@ use borrow.Author.Rules.{rules}
 use Rattle.synthesis.proofs.near_pole.pole_degree.Statement.{statement}
 use Rattle.synthesis.proofs.near_pole.pole_degree.Tie as tie
 
-sub-coeffs-at : tie.Need-overflow-sub-coeffs-at
-sub-coeffs-at c = search rules
+sub-coeffs_at : tie.Need-overflow_sub-i
+sub-coeffs_at c = search rules
 
-coeffs-at-requires : tie.Need-coeffs-at-requires
-coeffs-at-requires c κs = search rules
+coeffs_at-requires : tie.Need-coeffs_at-w0-requires
+coeffs_at-requires c κs = search rules
 
-coeffs-at-requires-2 : tie.Need-coeffs-at-requires-2
-coeffs-at-requires-2 c κs = search rules
+coeffs_at-requires-2 : tie.Need-coeffs_at-w1-requires
+coeffs_at-requires-2 c κs = search rules
 
-mul-pole-parts : tie.Need-overflow-mul-pole-parts
-mul-pole-parts c = search rules
+mul-pole_parts : tie.Need-offset_bounds-ss-i
+mul-pole_parts c = search rules
 
-element-copy-out-pole-parts : tie.Need-element-copy-out-pole-parts
-element-copy-out-pole-parts c = search rules
+element_copy_out-pole_parts : tie.Need-bounds-ss-i
+element_copy_out-pole_parts c = search rules
 
-add-pole-parts : tie.Need-overflow-add-pole-parts
-add-pole-parts c = search rules
+add-pole_parts : tie.Need-overflow_add-i
+add-pole_parts c = search rules
 
-mul-pole-parts-2 : tie.Need-overflow-mul-pole-parts-2
-mul-pole-parts-2 c = search rules
+mul-pole_parts-2 : tie.Need-offset_bounds-ss-i-2
+mul-pole_parts-2 c = search rules
 
-element-copy-out-pole-parts-2 : tie.Need-element-copy-out-pole-parts-2
-element-copy-out-pole-parts-2 c = search rules
+element_copy_out-pole_parts-2 : tie.Need-bounds-ss-i-2
+element_copy_out-pole_parts-2 c = search rules
 
-pole-parts-requires : tie.Need-pole-parts-requires
-pole-parts-requires c κs = search rules
+pole_parts-requires : tie.Need-pole_parts-requires
+pole_parts-requires c κs = search rules
 
 returns : tie.Need-returns
 returns c =
-    let w1 = c.before.before.before in
-    rw (w1.coeffs-at2.ensures, w1.before.coeffs-at.ensures) at c.pole-parts.ensures
+    rw (c.coeffs_at-w1.ensures, c.coeffs_at-w0.ensures) at c.pole_parts.ensures
 
 pub pole_degree_spec : {M : Type 1} → statement M
 pole_degree_spec =
     tie.close
-    (tie.spec
-    sub-coeffs-at
-    coeffs-at-requires
-    coeffs-at-requires-2
-    mul-pole-parts
-    element-copy-out-pole-parts
-    add-pole-parts
-    mul-pole-parts-2
-    element-copy-out-pole-parts-2
-    pole-parts-requires
-    returns)
+    (tie.spec sub-coeffs_at coeffs_at-requires coeffs_at-requires-2 mul-pole_parts element_copy_out-pole_parts add-pole_parts mul-pole_parts-2 element_copy_out-pole_parts-2 pole_parts-requires returns)

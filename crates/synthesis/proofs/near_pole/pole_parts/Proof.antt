@@ -11,11 +11,11 @@ use borrow.Author.Rules.{rules}
 use Rattle.synthesis.proofs.near_pole.pole_parts.Statement.{statement}
 use Rattle.synthesis.proofs.near_pole.pole_parts.Tie as tie
 
-term-of-requires : tie.Need-term-of-requires
-term-of-requires c κs = search rules
+term_of-requires : tie.Need-term_of-v0-requires
+term_of-requires c κs = search rules
 
-term-of-requires-2 : tie.Need-term-of-requires-2
-term-of-requires-2 c κs = search rules
+term_of-requires-2 : tie.Need-term_of-v1-requires
+term_of-requires-2 c κs = search rules
 
 -- the parts from the terms of both orders, over variables
 parts_are : (row : PoleRow) (w0 w1 : Gh) (s0 s1 : Float) (u : SinCos) (power : Float) (v0 v1 : Xyz)
@@ -33,9 +33,8 @@ parts_are row w0 w1 s0 s1 u power v0 v1 e f = rw (e, f)
 
 returns : tie.Need-returns
 returns c =
-    let v1 = c.before.before.before.before.before.before.before.before.before in
-    let a = v1.before.before.args in
-    parts_are a.row a.w0 a.w1 a.s0 a.s1 a.u a.a-over-r-n2 v1.before.term_of.result v1.term-of2.result v1.before.term_of.ensures v1.term-of2.ensures
+    let a = c.args in
+    parts_are a.row a.w0 a.w1 a.s0 a.s1 a.u a.a-over-r-n2 c.term_of-v0.result c.term_of-v1.result c.term_of-v0.ensures c.term_of-v1.ensures
 
 pub pole_parts_spec : {M : Type 1} → statement M
-pole_parts_spec = tie.close (tie.spec term-of-requires term-of-requires-2 returns)
+pole_parts_spec = tie.close (tie.spec term_of-requires term_of-requires-2 returns)

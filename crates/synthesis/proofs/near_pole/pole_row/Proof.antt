@@ -20,23 +20,22 @@ row_is : (n : ℕ) (k0 k1 ct st : Float) (a b : PoleRow) (x0 x1 : PDp) (q : Floa
 unfolding next_row
 row_is n k0 k1 ct st a b x0 x1 q e f g = rw (e, f, g)
 
-gauss-norm-p-dp-requires : tie.Need-gauss-norm-p-dp-requires
-gauss-norm-p-dp-requires c κs = search rules
+gauss_norm_p_dp-requires : tie.Need-gauss_norm_p_dp-r0-requires
+gauss_norm_p_dp-requires c κs = search rules
 
-gauss-norm-p-dp-requires-2 : tie.Need-gauss-norm-p-dp-requires-2
-gauss-norm-p-dp-requires-2 c κs = search rules
+gauss_norm_p_dp-requires-2 : tie.Need-gauss_norm_p_dp-r1-requires
+gauss_norm_p_dp-requires-2 c κs = search rules
 
-next-q-requires : tie.Need-next-q-requires
-next-q-requires c κs = search rules
+next_q-requires : tie.Need-next_q-q-requires
+next_q-requires c κs = search rules
 
 returns : tie.Need-returns
 returns c =
-    let b = c.before in
-    let a = b.before.before.args in
+    let a = c.args in
     row_is a.n a.k0 a.k1 a.cos_theta a.sin_theta a.prev1 a.prev2
-    b.before.gauss-norm-p-dp.result b.gauss-norm-p-dp2.result c.next-q.result b.before.gauss-norm-p-dp.ensures b.gauss-norm-p-dp2.ensures c.next-q.ensures
+    c.gauss_norm_p_dp-r0.result c.gauss_norm_p_dp-r1.result c.next_q-q.result c.gauss_norm_p_dp-r0.ensures c.gauss_norm_p_dp-r1.ensures c.next_q-q.ensures
 
 pub pole_row_spec : {M : Type 1} → statement M
 pole_row_spec =
     tie.close
-    (tie.spec gauss-norm-p-dp-requires gauss-norm-p-dp-requires-2 next-q-requires returns)
+    (tie.spec gauss_norm_p_dp-requires gauss_norm_p_dp-requires-2 next_q-requires returns)

@@ -4,46 +4,31 @@ use borrow.Author.Rules.{rules}
 use Rattle.synthesis.proofs.paths.synthesize_geocentric_xyz.Statement.{statement}
 use Rattle.synthesis.proofs.paths.synthesize_geocentric_xyz.Tie as tie
 
-degree-of-requires : tie.Need-degree-of-requires
-degree-of-requires c κs = search rules
+degree_of-requires : tie.Need-degree_of-top-requires
+degree_of-requires c κs = search rules
 
 abs-requires : tie.Need-abs-requires
 abs-requires c κs = search rules
 
-synthesize-near-pole-requires : tie.Need-synthesize-near-pole-requires
-synthesize-near-pole-requires c κs =
-    let d = c.before.before in
-    let s = d.before.before.before.before.before in
-    let a = s.args in
-    of_degree _ a.g.now a.h.now a.g_dot.now a.h_dot.now d.degree_of.ensures s.requires.0
+synthesize_near_pole-requires : tie.Need-synthesize_near_pole-requires
+synthesize_near_pole-requires c κs =
+    let a = c.args in
+    of_degree _ a.g.now a.h.now a.g_dot.now a.h_dot.now c.degree_of-top.ensures c.requires.0
 
-returns : tie.Need-returns
+returns : tie.Need-returns-then-abs
 returns c =
-    let i = c.before in
-    let b = i.before in
-    value_pole _ _ b.before.degree_of.ensures _ b.abs.ensures i.if1.true _ c.synthesize-near-pole.ensures
+    value_pole _ _ c.degree_of-top.ensures _ c.abs.ensures c.if-abs.true _ c.synthesize_near_pole.ensures
 
-synthesize-xyz-prime-requires : tie.Need-synthesize-xyz-prime-requires
-synthesize-xyz-prime-requires c κs =
-    let d = c.before.before in
-    let s = d.before.before.before.before.before in
-    let a = s.args in
-    (of_degree _ a.g.now a.h.now a.g_dot.now a.h_dot.now d.degree_of.ensures s.requires.0, s.requires.1)
+synthesize_xyz_prime-requires : tie.Need-synthesize_xyz_prime-r-requires
+synthesize_xyz_prime-requires c κs =
+    let a = c.args in
+    (of_degree _ a.g.now a.h.now a.g_dot.now a.h_dot.now c.degree_of-top.ensures c.requires.0, c.requires.1)
 
-returns-2 : tie.Need-returns-2
+returns-2 : tie.Need-returns
 returns-2 c =
-    let g = c.before in
-    let i = g.before in
-    let b = i.before in
-    value_general _ _ b.before.degree_of.ensures _ b.abs.ensures i.if1.false _ g.synthesize-xyz-prime.ensures
+    value_general _ _ c.degree_of-top.ensures _ c.abs.ensures c.if-abs.false _ c.synthesize_xyz_prime-r.ensures
 
 pub synthesize_geocentric_xyz_spec : {M : Type 1} → statement M
 synthesize_geocentric_xyz_spec =
     tie.close
-    (tie.spec
-    degree-of-requires
-    abs-requires
-    synthesize-near-pole-requires
-    returns
-    synthesize-xyz-prime-requires
-    returns-2)
+    (tie.spec degree_of-requires abs-requires synthesize_near_pole-requires returns synthesize_xyz_prime-requires returns-2)

@@ -11,33 +11,30 @@ use borrow.Author.Rules.{rules}
 use Rattle.synthesis.proofs.rows.gauss_norm_p_dp.Statement.{statement}
 use Rattle.synthesis.proofs.rows.gauss_norm_p_dp.Tie as tie
 
-returns : tie.Need-returns
+returns : tie.Need-returns-then-n-m
 unfolding step rounded
-returns c = simp (eq-eqb _ _ c.before.before.before.if1.true)
+returns c = simp (eq-eqb _ _ c.if-n-m.true)
 
-returns-2 : tie.Need-returns-2
+returns-2 : tie.Need-returns-then-m-eq0
 unfolding step rounded
-returns-2 c = simp (ne_eqb _ _ c.before.before.if1.false, eq-eqb _ _ c.before.if2.true, c.if3.true)
+returns-2 c = simp (ne_eqb _ _ c.if-n-m.false, eq-eqb _ _ c.if-n-eq1.true, c.if-m-eq0.true-raw)
 
-sub-if4 : tie.Need-overflow-sub-if4
-sub-if4 c = ⊎_elim (λ w. omega (arith, eqb-false)) (λ w. omega arith) c.if2.branch
+sub-if4 : tie.Need-overflow_sub-n
+sub-if4 c = ⊎_elim (λ w. omega (arith, eqb-false)) (λ w. omega arith) c.else-n-eq1.branch-raw
 
-returns-3 : tie.Need-returns-3
+returns-3 : tie.Need-returns-then-m-n
 unfolding step rounded
 returns-3 c =
-    let b = c.before.before.before in
-    let e = b.before.before in
-    simp (ne_eqb _ _ e.if1.false, ne_eqb e.before.args.n 1 (λ h. omega (arith, sub-if4 b.before)), lt-ltb _ _ b.if4.true)
+    simp (ne_eqb _ _ c.if-n-m.false, ne_eqb c.args.n 1 (λ h. omega (arith, sub-if4 c.before)), lt-ltb _ _ c.if-m-n.true)
 
-lower-p-dp-requires : tie.Need-lower-p-dp-requires
-lower-p-dp-requires c κs = search rules
+lower_p_dp-requires : tie.Need-lower_p_dp-requires
+lower_p_dp-requires c κs = search rules
 
-returns-4 : tie.Need-returns-4
+returns-4 : tie.Need-returns
 returns-4 c =
-    let b = c.before in
-    let o = b.before.before.before.args in
-    c.lower-p-dp.ensures ∙ ap pdp (sym (lower_branch _ _ _ o.n o.m _ _ _ (omega (arith, sub-if4 b.before, b.if4.false))))
+    let o = c.args in
+    c.lower_p_dp.ensures ∙ ap pdp (sym (lower_branch _ _ _ o.n o.m _ _ _ (omega (arith, sub-if4 c.before, c.if-m-n.false))))
 
 pub gauss_norm_p_dp_spec : {M : Type 1} → statement M
 gauss_norm_p_dp_spec =
-    tie.close (tie.spec returns returns-2 sub-if4 returns-3 lower-p-dp-requires returns-4)
+    tie.close (tie.spec returns returns-2 sub-if4 returns-3 lower_p_dp-requires returns-4)

@@ -3,42 +3,32 @@ use borrow.Author.Rules.{rules}
 use Rattle.synthesis.proofs.terms.put_four_terms.Statement.{statement}
 use Rattle.synthesis.proofs.terms.put_four_terms.Tie as tie
 
-put-term-requires : tie.Need-put-term-requires
-put-term-requires c κs = search rules
+put_term-requires : tie.Need-put_term-requires
+put_term-requires c κs = search rules
 
-add-put-term : tie.Need-overflow-add-put-term
-add-put-term c = search rules
+add-put_term : tie.Need-overflow_add-i
+add-put_term c = search rules
 
-put-term-requires-2 : tie.Need-put-term-requires-2
-put-term-requires-2 c κs = search rules
+put_term-requires-2 : tie.Need-put_term-requires-2
+put_term-requires-2 c κs = search rules
 
-add-put-term-2 : tie.Need-overflow-add-put-term-2
-add-put-term-2 c = search rules
+add-put_term-2 : tie.Need-overflow_add-i-2
+add-put_term-2 c = search rules
 
-put-term-requires-3 : tie.Need-put-term-requires-3
-put-term-requires-3 c κs = search rules
+put_term-requires-3 : tie.Need-put_term-requires-3
+put_term-requires-3 c κs = search rules
 
-add-put-term-3 : tie.Need-overflow-add-put-term-3
-add-put-term-3 c = search rules
+add-put_term-3 : tie.Need-overflow_add-i-3
+add-put_term-3 c = search rules
 
-put-term-requires-4 : tie.Need-put-term-requires-4
-put-term-requires-4 c κs = search rules
+put_term-requires-4 : tie.Need-put_term-requires-4
+put_term-requires-4 c κs = search rules
 
 returns : tie.Need-returns
 returns c =
-    let p3 = c.before.before in
-    let p2 = p3.before.before in
-    rw (c.put-term4.ensures, p3.put-term3.ensures, p2.put-term2.ensures, p2.before.before.put-term.ensures)
+    rw (c.put_term-4.ensures, c.put_term-3.ensures, c.put_term-2.ensures, c.put_term.ensures)
 
 pub put_four_terms_spec : {M : Type 1} → statement M
 put_four_terms_spec =
     tie.close
-    (tie.spec
-    put-term-requires
-    add-put-term
-    put-term-requires-2
-    add-put-term-2
-    put-term-requires-3
-    add-put-term-3
-    put-term-requires-4
-    returns)
+    (tie.spec put_term-requires add-put_term put_term-requires-2 add-put_term-2 put_term-requires-3 add-put_term-3 put_term-requires-4 returns)
