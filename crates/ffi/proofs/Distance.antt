@@ -44,7 +44,7 @@ use Rattle.rates.specs.declared.RatesAnswer.TheVariants as RatesAnswer
 use Rattle.rates.specs.Rates.{AllFinite, RatesClose, rates_says, rates_with, zero_divisor}
 use Rattle.rates.proofs.Answers as rate_answers
 use Rattle.rates.proofs.Laws.{all_finite}
-use Rattle.ffi.specs.Told.{number_of, result, field_floats, error_floats, rate_floats, stored_field, either_field}
+use Rattle.ffi.specs.Told.{number_of, result_place, field_floats, error_floats, rate_floats, stored_field, either_field}
 use Rattle.ffi.proofs.yearly.njerumoy_rates.Kinds as rates_kinds
 use Rattle.ffi.proofs.yearly.njerumoy_rates.Reads as rates_reads
 use Rattle.ffi.proofs.fields.njerumoy_field.Kinds as kinds
@@ -174,7 +174,7 @@ njerumoy_field_distance κs height sin_phi cos_phi sin_lambda cos_lambda year da
     let a : Asked = asked height sin_phi cos_phi sin_lambda cos_lambda epoch_year_lem g.now h.now g_dot.now h_dot.now in
     let q = field_answers a year day c.0.0 in
     let v = q.0 in
-    (v, c.0.1 ∙ ap (result field_floats _) q.1, c.0.2 ∙ ap (result error_floats _) q.1, field_close a year day (Answer.Field v) (sym q.1) v refl)
+    (v, c.0.1 ∙ ap (result_place field_floats _) q.1, c.0.2 ∙ ap (result_place error_floats _) q.1, field_close a year day (Answer.Field v) (sym q.1) v refl)
 
 -- the same of the yearly rates, of the exact rates; and each of the seven is finite
 rates_answer : (a : Asked) (year day : ℤ) → Answers (rates_says a year day)
@@ -190,7 +190,7 @@ njerumoy_rates_distance κs height sin_phi cos_phi sin_lambda cos_lambda year da
     let a : Asked = asked height sin_phi cos_phi sin_lambda cos_lambda epoch_year_lem g.now h.now g_dot.now h_dot.now in
     let q = rates_answer a year day c.0.0 in
     let v = q.0 in
-    (v, c.0.1 ∙ ap (result rate_floats _) q.1, rate_answers.answer_close a year day (RatesAnswer.Rates v) (sym q.1) v refl, all_finite a year day v q.1)
+    (v, c.0.1 ∙ ap (result_place rate_floats _) q.1, rate_answers.answer_close a year day (RatesAnswer.Rates v) (sym q.1) v refl, all_finite a year day v q.1)
 
 -- the same of the entry in degrees, of the exact field of the pairs that are made of the two angles
 pub njerumoy_field_in_degrees_distance : (κs : Lfts 8) (height latitude longitude : Float) (year day epoch_year_lem : ℤ) (g h g_dot h_dot xyz errors : Bor (List Float)) (entry : Bor (List ℕ)) (years : Bor (List ℤ))
@@ -203,7 +203,7 @@ njerumoy_field_in_degrees_distance κs height latitude longitude year day epoch_
     let a : Place = place height latitude longitude epoch_year_lem g.now h.now g_dot.now h_dot.now in
     let r = degrees_answers a year day c.0.0 in
     let v = r.2 in
-    (r.0, r.1, v, r.3, r.4, c.0.1 ∙ ap (result field_floats _) r.5, c.0.2 ∙ ap (result error_floats _) r.5, field_close (paired a r.0 r.1) year day (Answer.Field v) (sym r.6) v refl)
+    (r.0, r.1, v, r.3, r.4, c.0.1 ∙ ap (result_place field_floats _) r.5, c.0.2 ∙ ap (result_place error_floats _) r.5, field_close (paired a r.0 r.1) year day (Answer.Field v) (sym r.6) v refl)
 
 -- the same of the entry with a stored set, of the set that is read
 pub njerumoy_field_stored_distance : (κs : Lfts 6) (stored : Bor (List ℕ)) (height sin_phi cos_phi sin_lambda cos_lambda : Float) (year day : ℤ) (xyz errors : Bor (List Float)) (entry : Bor (List ℕ)) (years : Bor (List ℤ)) (place : Bor ℕ)
@@ -214,7 +214,7 @@ pub njerumoy_field_stored_distance : (κs : Lfts 6) (stored : Bor (List ℕ)) (h
 njerumoy_field_stored_distance κs stored height sin_phi cos_phi sin_lambda cos_lambda year day xyz errors entry years place xyz' errors' entry' years' place' c =
     let r = stored_field_answers stored.now height sin_phi cos_phi sin_lambda cos_lambda year day c.0.0 in
     let v = r.1 in
-    (r.0, v, r.2, c.0.1 ∙ ap (result field_floats _) r.3, c.0.2 ∙ ap (result error_floats _) r.3, field_close (with_set height sin_phi cos_phi sin_lambda cos_lambda r.0) year day (Answer.Field v) (sym r.4) v refl)
+    (r.0, v, r.2, c.0.1 ∙ ap (result_place field_floats _) r.3, c.0.2 ∙ ap (result_place error_floats _) r.3, field_close (with_set height sin_phi cos_phi sin_lambda cos_lambda r.0) year day (Answer.Field v) (sym r.4) v refl)
 
 -- the same of the entry with a stored set of either form
 pub njerumoy_field_stored_either_distance : (κs : Lfts 6) (stored : Bor (List ℕ)) (height sin_phi cos_phi sin_lambda cos_lambda : Float) (year day : ℤ) (xyz errors : Bor (List Float)) (entry : Bor (List ℕ)) (years : Bor (List ℤ)) (place : Bor ℕ)
@@ -225,7 +225,7 @@ pub njerumoy_field_stored_either_distance : (κs : Lfts 6) (stored : Bor (List �
 njerumoy_field_stored_either_distance κs stored height sin_phi cos_phi sin_lambda cos_lambda year day xyz errors entry years place xyz' errors' entry' years' place' c =
     let r = either_field_answers stored.now height sin_phi cos_phi sin_lambda cos_lambda year day c.0.0 in
     let v = r.1 in
-    (r.0, v, r.2, c.0.1 ∙ ap (result field_floats _) r.3, c.0.2 ∙ ap (result error_floats _) r.3, field_close (with_set height sin_phi cos_phi sin_lambda cos_lambda r.0) year day (Answer.Field v) (sym r.4) v refl)
+    (r.0, v, r.2, c.0.1 ∙ ap (result_place field_floats _) r.3, c.0.2 ∙ ap (result_place error_floats _) r.3, field_close (with_set height sin_phi cos_phi sin_lambda cos_lambda r.0) year day (Answer.Field v) (sym r.4) v refl)
 
 -- the same of the entry with a lent list, over its clauses, since its proof is by hand
 pub njerumoy_field_listed_distance : {M : Type 1} {𝓤 : Ura M} (𝓛 : Logic 𝓤) (mem : Memory → SProp 𝓤) (run : Routine → Fun 𝓤) (κs : Lfts 9) (height sin_phi cos_phi sin_lambda cos_lambda : Float) (year day epoch_year_lem : ℤ)
@@ -239,4 +239,4 @@ njerumoy_field_listed_distance {𝓤 = 𝓤} 𝓛 mem run κs height sin_phi cos
     says_first 𝓤 (λ c.
     let q = listed_field_answers records.now a year day c.0 in
     let v = q.0 in
-    (v, c.1 ∙ ap (result field_floats _) q.1, c.2 ∙ ap (result error_floats _) q.1, answer_close (listed_errors records.now (epoch_year_of year)) a year day (Answer.Field v) (sym q.1) v refl))
+    (v, c.1 ∙ ap (result_place field_floats _) q.1, c.2 ∙ ap (result_place error_floats _) q.1, answer_close (listed_errors records.now (epoch_year_of year)) a year day (Answer.Field v) (sym q.1) v refl))
