@@ -21,7 +21,7 @@ use Rattle.ffi.proofs.sets.njerumoy_field_stored as field_stored_fn
 use Rattle.ffi.proofs.forms.njerumoy_field_stored_either as field_stored_either_fn
 use Rattle.ffi.specs.contracts.listed.njerumoy_field_listed as field_listed_fn
 use Rattle.ffi.specs.contracts.listed.njerumoy_declination_uncertainty_listed as declination_uncertainty_listed_fn
-use Rattle.ffi.proofs.sums.njerumoy_sum as sum_fn
+use Rattle.ffi.proofs.sum.njerumoy_sum as sum_fn
 use Rattle.ffi.proofs.days.njerumoy_epoch as epoch_fn
 use Rattle.ffi.proofs.records.njerumoy_horizontal as horizontal_fn
 use Rattle.ffi.proofs.records.njerumoy_total as total_fn

@@ -13,6 +13,6 @@ mod profile;
 mod records;
 mod refuse;
 mod sets;
-mod sums;
+mod sum;
 mod tell;
 mod yearly;
