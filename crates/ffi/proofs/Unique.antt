@@ -106,9 +106,9 @@ njerumoy_sum κs a x y u v p q =
 
 pub njerumoy_epoch : OneResult epoch_fn.Kinds.ps epoch_fn.Kinds.r epoch_fn.Reads.Post
 njerumoy_epoch κs a x y u v p q =
-    let epoch_year_lem = same p.1 q.1 in
+    let epoch_year = same p.1 q.1 in
     let offset = same p.2 q.2 in
-    (same p.0 q.0, λ i. (tt, (tt, (epoch_year_lem i, (offset i, tt)))))
+    (same p.0 q.0, λ i. (tt, (tt, (epoch_year i, (offset i, tt)))))
 
 pub njerumoy_horizontal : OneResult horizontal_fn.Kinds.ps horizontal_fn.Kinds.r horizontal_fn.Reads.Post
 njerumoy_horizontal κs a x y u v p q =
