@@ -62,7 +62,7 @@ pub fn read(
 ) -> ReadAnswer
     ensures answer { left (said result) (lists_of g.new h.new g_dot.new h_dot.new)
         ≡ read_of text.now (lists_of g.old h.old g_dot.old h_dot.old) }
-    ensures kept { text.now ≡ text.now }
+    ensures kept { text.exit.now ≡ text.entry.now }
 {
     if !lists::lists_long(g, h, g_dot, h_dot) {
         return ReadAnswer::Refused(Refusal::Length);

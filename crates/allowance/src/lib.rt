@@ -122,7 +122,7 @@ pub fn allowance(
 ) -> AllowanceAnswer
     ensures answer { said result ≡ allowance_says (asked height latitude.sin latitude.cos longitude.sin longitude.cos epoch_year g.now h.now g_dot.now h_dot.now) day.year day.day_of_year }
     ensures covers { (v : Allowances) → result ≡ AllowanceAnswer.Allowance v → Covered (asked height latitude.sin latitude.cos longitude.sin longitude.cos epoch_year g.now h.now g_dot.now h_dot.now) (epoch_offset day.year day.day_of_year) v }
-    ensures kept { (g.now ≡ g.now) × (h.now ≡ h.now) × (g_dot.now ≡ g_dot.now) × (h_dot.now ≡ h_dot.now) }
+    ensures kept { (g.exit.now ≡ g.entry.now) × (h.exit.now ≡ h.entry.now) × (g_dot.exit.now ≡ g_dot.entry.now) × (h_dot.exit.now ≡ h_dot.entry.now) }
 {
     if let FieldAnswer::Refused(k) = field::field(
         height, latitude, longitude, day, epoch_year, g, h, g_dot, h_dot,

@@ -25,7 +25,7 @@ pub fn field_in_degrees(
 ) -> FieldAnswer
     ensures answer { said result ≡ degrees_says (place height latitude_deg longitude_deg epoch_year g.now h.now g_dot.now h_dot.now) day.year day.day_of_year }
     ensures distance { DegreesClose (place height latitude_deg longitude_deg epoch_year g.now h.now g_dot.now h_dot.now) (epoch_offset day.year day.day_of_year) result }
-    ensures kept { (g.now ≡ g.now) × (h.now ≡ h.now) × (g_dot.now ≡ g_dot.now) × (h_dot.now ≡ h_dot.now) }
+    ensures kept { (g.exit.now ≡ g.entry.now) × (h.exit.now ≡ h.entry.now) × (g_dot.exit.now ≡ g_dot.entry.now) × (h_dot.exit.now ≡ h_dot.entry.now) }
 {
     match trig::sine_and_cosine(latitude_deg) {
         PairAnswer::Refused(k) => FieldAnswer::Refused(k),

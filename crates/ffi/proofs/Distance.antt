@@ -44,7 +44,7 @@ use Rattle.rates.specs.declared.RatesAnswer.TheVariants as RatesAnswer
 use Rattle.rates.specs.Rates.{AllFinite, RatesClose, rates_says, rates_with, zero_divisor}
 use Rattle.rates.proofs.Answers as rate_answers
 use Rattle.rates.proofs.Laws.{all_finite}
-use Rattle.ffi.specs.Told.{number_of, result, field_floats, error_floats, rate_floats, stored_field, either_field}
+use Rattle.ffi.specs.Told.{number_of, result_place, field_floats, error_floats, rate_floats, stored_field, either_field}
 use Rattle.ffi.proofs.yearly.njerumoy_rates.Kinds as rates_kinds
 use Rattle.ffi.proofs.yearly.njerumoy_rates.Reads as rates_reads
 use Rattle.ffi.proofs.fields.njerumoy_field.Kinds as kinds
@@ -165,45 +165,45 @@ either_field_answers s height sp cp sl cl year day = behind_one (says_of (entrie
 
 -- ---- the entries
 -- whatever is passed: if it returns 0, what it has written are the floats of one record, whose X, Y and Z lie within the promised distance
-pub njerumoy_field_distance : (κs : Lfts 8) (height sin_phi cos_phi sin_lambda cos_lambda : Float) (year day epoch_year_lem : ℤ) (g h g_dot h_dot xyz errors : Bor (List Float)) (entry : Bor (List ℕ)) (years : Bor (List ℤ))
+pub njerumoy_field_distance : (κs : Lfts 8) (height sin_phi cos_phi sin_lambda cos_lambda : Float) (year day epoch_year : ℤ) (g h g_dot h_dot xyz errors : Bor (List Float)) (entry : Bor (List ℕ)) (years : Bor (List ℤ))
     (xyz' errors' : List Float) (entry' : List ℕ) (years' : List ℤ)
-    → (let a : Dens κs kinds.ps = (height, (sin_phi, (cos_phi, (sin_lambda, (cos_lambda, (year, (day, (epoch_year_lem, (g, (h, (g_dot, (h_dot, (xyz, (errors, (entry, (years, tt)))))))))))))))) in
+    → (let a : Dens κs kinds.ps = (height, (sin_phi, (cos_phi, (sin_lambda, (cos_lambda, (year, (day, (epoch_year, (g, (h, (g_dot, (h_dot, (xyz, (errors, (entry, (years, tt)))))))))))))))) in
     reads.Post κs a 0 (at_exit (ended_of 8 kinds.ps kinds.r) κs a (tt, (tt, (tt, (tt, (tt, (tt, (tt, (tt, (tt, (tt, (tt, (tt, (xyz', (errors', (entry', (years', tt))))))))))))))))))
-    → (v : GeomagneticField) × (xyz' ≡ field_floats v) × (errors' ≡ error_floats v) × FieldClose (asked height sin_phi cos_phi sin_lambda cos_lambda epoch_year_lem g.now h.now g_dot.now h_dot.now) (epoch_offset year day) v
-njerumoy_field_distance κs height sin_phi cos_phi sin_lambda cos_lambda year day epoch_year_lem g h g_dot h_dot xyz errors entry years xyz' errors' entry' years' c =
-    let a : Asked = asked height sin_phi cos_phi sin_lambda cos_lambda epoch_year_lem g.now h.now g_dot.now h_dot.now in
+    → (v : GeomagneticField) × (xyz' ≡ field_floats v) × (errors' ≡ error_floats v) × FieldClose (asked height sin_phi cos_phi sin_lambda cos_lambda epoch_year g.now h.now g_dot.now h_dot.now) (epoch_offset year day) v
+njerumoy_field_distance κs height sin_phi cos_phi sin_lambda cos_lambda year day epoch_year g h g_dot h_dot xyz errors entry years xyz' errors' entry' years' c =
+    let a : Asked = asked height sin_phi cos_phi sin_lambda cos_lambda epoch_year g.now h.now g_dot.now h_dot.now in
     let q = field_answers a year day c.0.0 in
     let v = q.0 in
-    (v, c.0.1 ∙ ap (result field_floats _) q.1, c.0.2 ∙ ap (result error_floats _) q.1, field_close a year day (Answer.Field v) (sym q.1) v refl)
+    (v, c.0.1 ∙ ap (result_place field_floats _) q.1, c.0.2 ∙ ap (result_place error_floats _) q.1, field_close a year day (Answer.Field v) (sym q.1) v refl)
 
 -- the same of the yearly rates, of the exact rates; and each of the seven is finite
 rates_answer : (a : Asked) (year day : ℤ) → Answers (rates_says a year day)
 unfolding rates_says rates_with
 rates_answer a year day = behind_answer (field_says a year day) _ (field_answers a year day) (λ v. behind_test (not (zero_divisor v)) ZeroDivisor _ (answers _))
 
-pub njerumoy_rates_distance : (κs : Lfts 7) (height sin_phi cos_phi sin_lambda cos_lambda : Float) (year day epoch_year_lem : ℤ) (g h g_dot h_dot rates : Bor (List Float)) (entry : Bor (List ℕ)) (years : Bor (List ℤ))
+pub njerumoy_rates_distance : (κs : Lfts 7) (height sin_phi cos_phi sin_lambda cos_lambda : Float) (year day epoch_year : ℤ) (g h g_dot h_dot rates : Bor (List Float)) (entry : Bor (List ℕ)) (years : Bor (List ℤ))
     (rates' : List Float) (entry' : List ℕ) (years' : List ℤ)
-    → (let a : Dens κs rates_kinds.ps = (height, (sin_phi, (cos_phi, (sin_lambda, (cos_lambda, (year, (day, (epoch_year_lem, (g, (h, (g_dot, (h_dot, (rates, (entry, (years, tt))))))))))))))) in
+    → (let a : Dens κs rates_kinds.ps = (height, (sin_phi, (cos_phi, (sin_lambda, (cos_lambda, (year, (day, (epoch_year, (g, (h, (g_dot, (h_dot, (rates, (entry, (years, tt))))))))))))))) in
     rates_reads.Post κs a 0 (at_exit (ended_of 7 rates_kinds.ps rates_kinds.r) κs a (tt, (tt, (tt, (tt, (tt, (tt, (tt, (tt, (tt, (tt, (tt, (tt, (rates', (entry', (years', tt)))))))))))))))))
-    → (v : YearlyRates) × (rates' ≡ rate_floats v) × RatesClose (asked height sin_phi cos_phi sin_lambda cos_lambda epoch_year_lem g.now h.now g_dot.now h_dot.now) v × AllFinite v
-njerumoy_rates_distance κs height sin_phi cos_phi sin_lambda cos_lambda year day epoch_year_lem g h g_dot h_dot rates entry years rates' entry' years' c =
-    let a : Asked = asked height sin_phi cos_phi sin_lambda cos_lambda epoch_year_lem g.now h.now g_dot.now h_dot.now in
+    → (v : YearlyRates) × (rates' ≡ rate_floats v) × RatesClose (asked height sin_phi cos_phi sin_lambda cos_lambda epoch_year g.now h.now g_dot.now h_dot.now) v × AllFinite v
+njerumoy_rates_distance κs height sin_phi cos_phi sin_lambda cos_lambda year day epoch_year g h g_dot h_dot rates entry years rates' entry' years' c =
+    let a : Asked = asked height sin_phi cos_phi sin_lambda cos_lambda epoch_year g.now h.now g_dot.now h_dot.now in
     let q = rates_answer a year day c.0.0 in
     let v = q.0 in
-    (v, c.0.1 ∙ ap (result rate_floats _) q.1, rate_answers.answer_close a year day (RatesAnswer.Rates v) (sym q.1) v refl, all_finite a year day v q.1)
+    (v, c.0.1 ∙ ap (result_place rate_floats _) q.1, rate_answers.answer_close a year day (RatesAnswer.Rates v) (sym q.1) v refl, all_finite a year day v q.1)
 
 -- the same of the entry in degrees, of the exact field of the pairs that are made of the two angles
-pub njerumoy_field_in_degrees_distance : (κs : Lfts 8) (height latitude longitude : Float) (year day epoch_year_lem : ℤ) (g h g_dot h_dot xyz errors : Bor (List Float)) (entry : Bor (List ℕ)) (years : Bor (List ℤ))
+pub njerumoy_field_in_degrees_distance : (κs : Lfts 8) (height latitude longitude : Float) (year day epoch_year : ℤ) (g h g_dot h_dot xyz errors : Bor (List Float)) (entry : Bor (List ℕ)) (years : Bor (List ℤ))
     (xyz' errors' : List Float) (entry' : List ℕ) (years' : List ℤ)
-    → (let a : Dens κs degrees_kinds.ps = (height, (latitude, (longitude, (year, (day, (epoch_year_lem, (g, (h, (g_dot, (h_dot, (xyz, (errors, (entry, (years, tt)))))))))))))) in
+    → (let a : Dens κs degrees_kinds.ps = (height, (latitude, (longitude, (year, (day, (epoch_year, (g, (h, (g_dot, (h_dot, (xyz, (errors, (entry, (years, tt)))))))))))))) in
     degrees_reads.Post κs a 0 (at_exit (ended_of 8 degrees_kinds.ps degrees_kinds.r) κs a (tt, (tt, (tt, (tt, (tt, (tt, (tt, (tt, (tt, (tt, (xyz', (errors', (entry', (years', tt))))))))))))))))
     → (p : Pair) × (q : Pair) × (v : GeomagneticField) × (sine_says latitude ≡ answered p) × (sine_says longitude ≡ answered q) × (xyz' ≡ field_floats v) × (errors' ≡ error_floats v)
-    × FieldClose (paired (place height latitude longitude epoch_year_lem g.now h.now g_dot.now h_dot.now) p q) (epoch_offset year day) v
-njerumoy_field_in_degrees_distance κs height latitude longitude year day epoch_year_lem g h g_dot h_dot xyz errors entry years xyz' errors' entry' years' c =
-    let a : Place = place height latitude longitude epoch_year_lem g.now h.now g_dot.now h_dot.now in
+    × FieldClose (paired (place height latitude longitude epoch_year g.now h.now g_dot.now h_dot.now) p q) (epoch_offset year day) v
+njerumoy_field_in_degrees_distance κs height latitude longitude year day epoch_year g h g_dot h_dot xyz errors entry years xyz' errors' entry' years' c =
+    let a : Place = place height latitude longitude epoch_year g.now h.now g_dot.now h_dot.now in
     let r = degrees_answers a year day c.0.0 in
     let v = r.2 in
-    (r.0, r.1, v, r.3, r.4, c.0.1 ∙ ap (result field_floats _) r.5, c.0.2 ∙ ap (result error_floats _) r.5, field_close (paired a r.0 r.1) year day (Answer.Field v) (sym r.6) v refl)
+    (r.0, r.1, v, r.3, r.4, c.0.1 ∙ ap (result_place field_floats _) r.5, c.0.2 ∙ ap (result_place error_floats _) r.5, field_close (paired a r.0 r.1) year day (Answer.Field v) (sym r.6) v refl)
 
 -- the same of the entry with a stored set, of the set that is read
 pub njerumoy_field_stored_distance : (κs : Lfts 6) (stored : Bor (List ℕ)) (height sin_phi cos_phi sin_lambda cos_lambda : Float) (year day : ℤ) (xyz errors : Bor (List Float)) (entry : Bor (List ℕ)) (years : Bor (List ℤ)) (place : Bor ℕ)
@@ -214,7 +214,7 @@ pub njerumoy_field_stored_distance : (κs : Lfts 6) (stored : Bor (List ℕ)) (h
 njerumoy_field_stored_distance κs stored height sin_phi cos_phi sin_lambda cos_lambda year day xyz errors entry years place xyz' errors' entry' years' place' c =
     let r = stored_field_answers stored.now height sin_phi cos_phi sin_lambda cos_lambda year day c.0.0 in
     let v = r.1 in
-    (r.0, v, r.2, c.0.1 ∙ ap (result field_floats _) r.3, c.0.2 ∙ ap (result error_floats _) r.3, field_close (with_set height sin_phi cos_phi sin_lambda cos_lambda r.0) year day (Answer.Field v) (sym r.4) v refl)
+    (r.0, v, r.2, c.0.1 ∙ ap (result_place field_floats _) r.3, c.0.2 ∙ ap (result_place error_floats _) r.3, field_close (with_set height sin_phi cos_phi sin_lambda cos_lambda r.0) year day (Answer.Field v) (sym r.4) v refl)
 
 -- the same of the entry with a stored set of either form
 pub njerumoy_field_stored_either_distance : (κs : Lfts 6) (stored : Bor (List ℕ)) (height sin_phi cos_phi sin_lambda cos_lambda : Float) (year day : ℤ) (xyz errors : Bor (List Float)) (entry : Bor (List ℕ)) (years : Bor (List ℤ)) (place : Bor ℕ)
@@ -225,18 +225,18 @@ pub njerumoy_field_stored_either_distance : (κs : Lfts 6) (stored : Bor (List �
 njerumoy_field_stored_either_distance κs stored height sin_phi cos_phi sin_lambda cos_lambda year day xyz errors entry years place xyz' errors' entry' years' place' c =
     let r = either_field_answers stored.now height sin_phi cos_phi sin_lambda cos_lambda year day c.0.0 in
     let v = r.1 in
-    (r.0, v, r.2, c.0.1 ∙ ap (result field_floats _) r.3, c.0.2 ∙ ap (result error_floats _) r.3, field_close (with_set height sin_phi cos_phi sin_lambda cos_lambda r.0) year day (Answer.Field v) (sym r.4) v refl)
+    (r.0, v, r.2, c.0.1 ∙ ap (result_place field_floats _) r.3, c.0.2 ∙ ap (result_place error_floats _) r.3, field_close (with_set height sin_phi cos_phi sin_lambda cos_lambda r.0) year day (Answer.Field v) (sym r.4) v refl)
 
 -- the same of the entry with a lent list, over its clauses, since its proof is by hand
-pub njerumoy_field_listed_distance : {M : Type 1} {𝓤 : Ura M} (𝓛 : Logic 𝓤) (mem : Memory → SProp 𝓤) (run : Routine → Fun 𝓤) (κs : Lfts 9) (height sin_phi cos_phi sin_lambda cos_lambda : Float) (year day epoch_year_lem : ℤ)
+pub njerumoy_field_listed_distance : {M : Type 1} {𝓤 : Ura M} (𝓛 : Logic 𝓤) (mem : Memory → SProp 𝓤) (run : Routine → Fun 𝓤) (κs : Lfts 9) (height sin_phi cos_phi sin_lambda cos_lambda : Float) (year day epoch_year : ℤ)
     (g h g_dot h_dot : Bor (List Float)) (records : Bor (List ErrorRecord)) (xyz errors : Bor (List Float)) (entry : Bor (List ℕ)) (years : Bor (List ℤ)) (xyz' errors' : List Float) (entry' : List ℕ) (years' : List ℤ)
-    → (let a : Args listed.signature κs = (height, (sin_phi, (cos_phi, (sin_lambda, (cos_lambda, (year, (day, (epoch_year_lem, (g, (h, (g_dot, (h_dot, (records, (xyz, (errors, (entry, (years, tt))))))))))))))))) in
+    → (let a : Args listed.signature κs = (height, (sin_phi, (cos_phi, (sin_lambda, (cos_lambda, (year, (day, (epoch_year, (g, (h, (g_dot, (h_dot, (records, (xyz, (errors, (entry, (years, tt))))))))))))))))) in
     ent 𝓤 ((listed.clauses 𝓛 mem run κs a).ensures tt 0 (at_exit listed.ended κs a (tt, (tt, (tt, (tt, (tt, (tt, (tt, (tt, (tt, (tt, (tt, (tt, (tt, (xyz', (errors', (entry', (years', tt)))))))))))))))))))
-    (fact 𝓤 ((v : GeomagneticField) × (xyz' ≡ field_floats v) × (errors' ≡ error_floats v) × FieldClose (asked height sin_phi cos_phi sin_lambda cos_lambda epoch_year_lem g.now h.now g_dot.now h_dot.now) (epoch_offset year day) v)))
+    (fact 𝓤 ((v : GeomagneticField) × (xyz' ≡ field_floats v) × (errors' ≡ error_floats v) × FieldClose (asked height sin_phi cos_phi sin_lambda cos_lambda epoch_year g.now h.now g_dot.now h_dot.now) (epoch_offset year day) v)))
 unfolding listed_field
-njerumoy_field_listed_distance {𝓤 = 𝓤} 𝓛 mem run κs height sin_phi cos_phi sin_lambda cos_lambda year day epoch_year_lem g h g_dot h_dot records xyz errors entry years xyz' errors' entry' years' =
-    let a : Asked = asked height sin_phi cos_phi sin_lambda cos_lambda epoch_year_lem g.now h.now g_dot.now h_dot.now in
+njerumoy_field_listed_distance {𝓤 = 𝓤} 𝓛 mem run κs height sin_phi cos_phi sin_lambda cos_lambda year day epoch_year g h g_dot h_dot records xyz errors entry years xyz' errors' entry' years' =
+    let a : Asked = asked height sin_phi cos_phi sin_lambda cos_lambda epoch_year g.now h.now g_dot.now h_dot.now in
     says_first 𝓤 (λ c.
     let q = listed_field_answers records.now a year day c.0 in
     let v = q.0 in
-    (v, c.1 ∙ ap (result field_floats _) q.1, c.2 ∙ ap (result error_floats _) q.1, answer_close (listed_errors records.now (epoch_year_of year)) a year day (Answer.Field v) (sym q.1) v refl))
+    (v, c.1 ∙ ap (result_place field_floats _) q.1, c.2 ∙ ap (result_place error_floats _) q.1, answer_close (listed_errors records.now (epoch_year_of year)) a year day (Answer.Field v) (sym q.1) v refl))

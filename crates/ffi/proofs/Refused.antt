@@ -19,15 +19,15 @@ use Rattle.refusals.specs.Paper.{Paper, line, paper}
 use Rattle.refusals.specs.contracts.Refusal.{the_type}
 use Rattle.refusals.proofs.Laws.{case, same_case}
 use Rattle.strengths.specs.Grid.{Variation}
-use Rattle.ffi.specs.Told.{number_of, result, entry_place, where_place, years_place, variation_place}
+use Rattle.ffi.specs.Told.{number_of, result_place, entry_place, where_place, years_place, variation_place}
 
 -- ---- where a call says p, and p is the refusal k
 module _ {A : Type 0} (k : Refusal) (p : Paper A) (e : paper k ≡ p) where
   pub number_refused : (line k).number ≡ number_of p
   number_refused = ap number_of e
 
-  pub kept_refused : {B : Type 0} (w : A → B) (held : B) → held ≡ result w held p
-  kept_refused w held = ap (result w held) e
+  pub kept_refused : {B : Type 0} (w : A → B) (held : B) → held ≡ result_place w held p
+  kept_refused w held = ap (result_place w held) e
 
   pub entry_refused : (held : List ℕ) → entry_place held (paper {A = ℕ} k) ≡ entry_place held p
   entry_refused held = ap (entry_place held) e

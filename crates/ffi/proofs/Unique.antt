@@ -21,7 +21,7 @@ use Rattle.ffi.proofs.sets.njerumoy_field_stored as field_stored_fn
 use Rattle.ffi.proofs.forms.njerumoy_field_stored_either as field_stored_either_fn
 use Rattle.ffi.specs.contracts.listed.njerumoy_field_listed as field_listed_fn
 use Rattle.ffi.specs.contracts.listed.njerumoy_declination_uncertainty_listed as declination_uncertainty_listed_fn
-use Rattle.ffi.proofs.sums.njerumoy_sum as sum_fn
+use Rattle.ffi.proofs.sum.njerumoy_sum as sum_fn
 use Rattle.ffi.proofs.days.njerumoy_epoch as epoch_fn
 use Rattle.ffi.proofs.records.njerumoy_horizontal as horizontal_fn
 use Rattle.ffi.proofs.records.njerumoy_total as total_fn
@@ -106,9 +106,9 @@ njerumoy_sum κs a x y u v p q =
 
 pub njerumoy_epoch : OneResult epoch_fn.Kinds.ps epoch_fn.Kinds.r epoch_fn.Reads.Post
 njerumoy_epoch κs a x y u v p q =
-    let epoch_year_lem = same p.1 q.1 in
+    let epoch_year = same p.1 q.1 in
     let offset = same p.2 q.2 in
-    (same p.0 q.0, λ i. (tt, (tt, (epoch_year_lem i, (offset i, tt)))))
+    (same p.0 q.0, λ i. (tt, (tt, (epoch_year i, (offset i, tt)))))
 
 pub njerumoy_horizontal : OneResult horizontal_fn.Kinds.ps horizontal_fn.Kinds.r horizontal_fn.Reads.Post
 njerumoy_horizontal κs a x y u v p q =

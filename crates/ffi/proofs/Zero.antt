@@ -17,17 +17,17 @@ use Rattle.allowance.specs.declared.Allowances.{Allowances}
 use Rattle.allowance.specs.declared.AllowanceAnswer.{AllowanceAnswer}
 use Rattle.allowance.specs.declared.AllowanceAnswer.TheVariants as Allowance
 use Rattle.allowance.specs.Allowance as allowance
-use Rattle.ffi.specs.Told.{allowance_floats, number_of, result, rate_floats, xyz_floats}
+use Rattle.ffi.specs.Told.{allowance_floats, number_of, result_place, rate_floats, xyz_floats}
 
 -- a call gives an R, of which `said` is what is told, and `of` makes one of an answer. Where the call promises P of an answer, n is returned and x written: 0 means that x is an answer with P
 abbrev Meant : {R A : Type 0} → (R → Paper A) → (A → R) → (A → List Float) → Type 1
 Meant {R} {A} said of w =
-    (r : R) (P : A → Type 0) → ((v : A) → r ≡ of v → P v) → (n : ℕ) → n ≡ number_of (said r) → (held x : List Float) → x ≡ result w held (said r) → n ≡ 0 → (v : A) × (x ≡ w v) × P v
+    (r : R) (P : A → Type 0) → ((v : A) → r ≡ of v → P v) → (n : ℕ) → n ≡ number_of (said r) → (held x : List Float) → x ≡ result_place w held (said r) → n ≡ 0 → (v : A) × (x ≡ w v) × P v
 
 where_zero : {R A : Type 0} (said : R → Paper A) (of : A → R) (w : A → List Float) → ((v : A) → said (of v) ≡ answered v) → ((r : R) → 0 ≡ number_of (said r) → (v : A) × (r ≡ of v)) → Meant said of w
 where_zero said of w is zero r P h n e held x f z =
     let q = zero r (sym z ∙ e) in
-    (q.0, f ∙ ap (result w held) (ap said q.1 ∙ is q.0), h q.0 q.1)
+    (q.0, f ∙ ap (result_place w held) (ap said q.1 ∙ is q.0), h q.0 q.1)
 
 -- no refusal has the number 0
 of_igrf : (r : IgrfAnswer) → 0 ≡ number_of (igrf.said r) → (v : Xyz) × (r ≡ Igrf.Components v)

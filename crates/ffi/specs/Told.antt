@@ -20,9 +20,9 @@ number_of (answered a) = 0
 number_of (refused n f z) = n
 
 -- a result's place: the answer, as w writes it; where there is none it keeps what it held
-abbrev pub result : {A B : Type 0} → (A → B) → B → Paper A → B
-result w held (answered a) = w a
-result w held (refused n f z) = held
+abbrev pub result_place : {A B : Type 0} → (A → B) → B → Paper A → B
+result_place w held (answered a) = w a
+result_place w held (refused n f z) = held
 
 -- the place for refusal 7's list and index
 abbrev pub entry_place : {A : Type 0} → List ℕ → Paper A → List ℕ

@@ -2,7 +2,7 @@
 ghost use Rattle.std.specs.Prelude.{◌≡◌};
 ghost use Rattle.trig.specs.Fixed.{sine_says};
 ghost use Rattle.strengths.specs.Angles.{declination_says};
-ghost use Rattle.ffi.specs.Told.{number_of, result, itself, sine_of, cosine_of};
+ghost use Rattle.ffi.specs.Told.{number_of, result_place, itself, sine_of, cosine_of};
 
 use crate::tell::tell_strength;
 use refusals::number;
@@ -10,8 +10,8 @@ use trig::PairAnswer;
 
 #[unsafe(no_mangle)]
 pub extern "C" fn njerumoy_sine_and_cosine(degrees: f32, sine: &mut f32, cosine: &mut f32) -> u32
-    ensures* { λ r. ⌜ (let p = sine_says degrees in
-        (r ≡ number_of p) × (sine.new ≡ result sine_of sine.old p) × (cosine.new ≡ result cosine_of cosine.old p)) ⌝ }
+    ensures { let p = sine_says degrees in
+        (result ≡ number_of p) × (sine.new ≡ result_place sine_of sine.old p) × (cosine.new ≡ result_place cosine_of cosine.old p) }
 {
     match trig::sine_and_cosine(degrees) {
         PairAnswer::Made(p) => {
@@ -25,8 +25,8 @@ pub extern "C" fn njerumoy_sine_and_cosine(degrees: f32, sine: &mut f32, cosine:
 
 #[unsafe(no_mangle)]
 pub extern "C" fn njerumoy_declination(x: f32, y: f32, declination: &mut f32) -> u32
-    ensures* { λ r. ⌜ (let p = declination_says x y in
-        (r ≡ number_of p) × (declination.new ≡ result itself declination.old p)) ⌝ }
+    ensures { let p = declination_says x y in
+        (result ≡ number_of p) × (declination.new ≡ result_place itself declination.old p) }
 {
     tell_strength(strengths::declination(x, y), declination)
 }

@@ -1,7 +1,7 @@
 // Epoch.
 ghost use Rattle.std.specs.Prelude.{◌≡◌};
 ghost use Rattle.models.specs.Epochs.{epoch_says};
-ghost use Rattle.ffi.specs.Told.{number_of, result, year_of, offset_of};
+ghost use Rattle.ffi.specs.Told.{number_of, result_place, year_of, offset_of};
 
 use models::EpochAnswer;
 use refusals::number;
@@ -13,8 +13,8 @@ pub extern "C" fn njerumoy_epoch(
     epoch_year: &mut i32,
     offset: &mut f32,
 ) -> u32
-    ensures* { λ r. ⌜ (let p = epoch_says year day_of_year in
-        (r ≡ number_of p) × (epoch_year.new ≡ result year_of epoch_year.old p) × (offset.new ≡ result offset_of offset.old p)) ⌝ }
+    ensures { let p = epoch_says year day_of_year in
+        (result ≡ number_of p) × (epoch_year.new ≡ result_place year_of epoch_year.old p) × (offset.new ≡ result_place offset_of offset.old p) }
 {
     match models::epoch(year, day_of_year) {
         EpochAnswer::Epoch(e) => {

@@ -7,7 +7,7 @@ ghost use Rattle.igrf.specs.Igrf.{early, profile};
 ghost use Rattle.allowance.specs.declared.Allowances.{Allowances};
 ghost use Rattle.allowance.specs.Allowance.{allowance_says, said};
 ghost use Rattle.allowance.specs.Profile.{IgrfCovered, igrf_allowance_says};
-ghost use Rattle.ffi.specs.Told.{number_of, result, entry_place, years_place, field_floats, error_floats, allowance_floats};
+ghost use Rattle.ffi.specs.Told.{number_of, result_place, entry_place, years_place, field_floats, error_floats, allowance_floats};
 
 use crate::refuse::tell_refusal;
 use crate::tell::tell_field;
@@ -35,10 +35,10 @@ pub extern "C" fn njerumoy_field(
     entry: &mut [usize; 2],
     years: &mut [i32; 2],
 ) -> u32
-    ensures* fact { λ r. ⌜ (let p = field_says (asked height sin_phi cos_phi sin_lambda cos_lambda epoch_year g.now h.now g_dot.now h_dot.now) year day_of_year in
-        (r ≡ number_of p) × (xyz.new ≡ result field_floats xyz.old p) × (errors.new ≡ result error_floats errors.old p)
-        × (entry.new ≡ entry_place entry.old p) × (years.new ≡ years_place years.old p)) ⌝ }
-    ensures* kept { λ _. ⌜ (g.now ≡ g.now) × (h.now ≡ h.now) × (g_dot.now ≡ g_dot.now) × (h_dot.now ≡ h_dot.now) ⌝ }
+    ensures answer { let p = field_says (asked height sin_phi cos_phi sin_lambda cos_lambda epoch_year g.now h.now g_dot.now h_dot.now) year day_of_year in
+        (result ≡ number_of p) × (xyz.new ≡ result_place field_floats xyz.old p) × (errors.new ≡ result_place error_floats errors.old p)
+        × (entry.new ≡ entry_place entry.old p) × (years.new ≡ years_place years.old p) }
+    ensures kept { (g.exit.now ≡ g.entry.now) × (h.exit.now ≡ h.entry.now) × (g_dot.exit.now ≡ g_dot.entry.now) × (h_dot.exit.now ≡ h_dot.entry.now) }
 {
     let latitude = Latitude {
         sin: sin_phi,
@@ -72,10 +72,10 @@ pub extern "C" fn njerumoy_field_in_degrees(
     entry: &mut [usize; 2],
     years: &mut [i32; 2],
 ) -> u32
-    ensures* fact { λ r. ⌜ (let p = degrees_says (place height latitude_deg longitude_deg epoch_year g.now h.now g_dot.now h_dot.now) year day_of_year in
-        (r ≡ number_of p) × (xyz.new ≡ result field_floats xyz.old p) × (errors.new ≡ result error_floats errors.old p)
-        × (entry.new ≡ entry_place entry.old p) × (years.new ≡ years_place years.old p)) ⌝ }
-    ensures* kept { λ _. ⌜ (g.now ≡ g.now) × (h.now ≡ h.now) × (g_dot.now ≡ g_dot.now) × (h_dot.now ≡ h_dot.now) ⌝ }
+    ensures answer { let p = degrees_says (place height latitude_deg longitude_deg epoch_year g.now h.now g_dot.now h_dot.now) year day_of_year in
+        (result ≡ number_of p) × (xyz.new ≡ result_place field_floats xyz.old p) × (errors.new ≡ result_place error_floats errors.old p)
+        × (entry.new ≡ entry_place entry.old p) × (years.new ≡ years_place years.old p) }
+    ensures kept { (g.exit.now ≡ g.entry.now) × (h.exit.now ≡ h.entry.now) × (g_dot.exit.now ≡ g_dot.entry.now) × (h_dot.exit.now ≡ h_dot.entry.now) }
 {
     let day = Day { year, day_of_year };
     let answer = degrees::field_in_degrees(
@@ -110,10 +110,10 @@ pub extern "C" fn njerumoy_allowance(
     entry: &mut [usize; 2],
     years: &mut [i32; 2],
 ) -> u32
-    ensures* fact { λ r. ⌜ (let p = allowance_says (asked height sin_phi cos_phi sin_lambda cos_lambda epoch_year g.now h.now g_dot.now h_dot.now) year day_of_year in
-        (r ≡ number_of p) × (allowances.new ≡ result allowance_floats allowances.old p)
-        × (entry.new ≡ entry_place entry.old p) × (years.new ≡ years_place years.old p)) ⌝ }
-    ensures* kept { λ _. ⌜ (g.now ≡ g.now) × (h.now ≡ h.now) × (g_dot.now ≡ g_dot.now) × (h_dot.now ≡ h_dot.now) ⌝ }
+    ensures answer { let p = allowance_says (asked height sin_phi cos_phi sin_lambda cos_lambda epoch_year g.now h.now g_dot.now h_dot.now) year day_of_year in
+        (result ≡ number_of p) × (allowances.new ≡ result_place allowance_floats allowances.old p)
+        × (entry.new ≡ entry_place entry.old p) × (years.new ≡ years_place years.old p) }
+    ensures kept { (g.exit.now ≡ g.entry.now) × (h.exit.now ≡ h.entry.now) × (g_dot.exit.now ≡ g_dot.entry.now) × (h_dot.exit.now ≡ h_dot.entry.now) }
 {
     let latitude = Latitude {
         sin: sin_phi,
@@ -153,12 +153,12 @@ pub extern "C" fn njerumoy_igrf_allowance(
     entry: &mut [usize; 2],
     years: &mut [i32; 2],
 ) -> u32
-    ensures* answer { λ r. ⌜ (let p = igrf_allowance_says (profile (asked height sin_phi cos_phi sin_lambda cos_lambda epoch_year g.now h.now g_dot.now h_dot.now) second_epoch_year second_g.now second_h.now) year day_of_year in
-        (r ≡ number_of p) × (allowances.new ≡ result allowance_floats allowances.old p)
-        × (entry.new ≡ entry_place entry.old p) × (years.new ≡ years_place years.old p)) ⌝ }
-    ensures* covers { λ r. ⌜ (r ≡ 0 → (v : Allowances) × (allowances.new ≡ allowance_floats v)
-        × IgrfCovered (profile (asked height sin_phi cos_phi sin_lambda cos_lambda epoch_year g.now h.now g_dot.now h_dot.now) second_epoch_year second_g.now second_h.now) (early year) (epoch_offset year day_of_year) v) ⌝ }
-    ensures* kept { λ _. ⌜ (g.now ≡ g.now) × (h.now ≡ h.now) × (g_dot.now ≡ g_dot.now) × (h_dot.now ≡ h_dot.now) × (second_g.now ≡ second_g.now) × (second_h.now ≡ second_h.now) ⌝ }
+    ensures answer { let p = igrf_allowance_says (profile (asked height sin_phi cos_phi sin_lambda cos_lambda epoch_year g.now h.now g_dot.now h_dot.now) second_epoch_year second_g.now second_h.now) year day_of_year in
+        (result ≡ number_of p) × (allowances.new ≡ result_place allowance_floats allowances.old p)
+        × (entry.new ≡ entry_place entry.old p) × (years.new ≡ years_place years.old p) }
+    ensures covers { result ≡ 0 → (v : Allowances) × (allowances.new ≡ allowance_floats v)
+        × IgrfCovered (profile (asked height sin_phi cos_phi sin_lambda cos_lambda epoch_year g.now h.now g_dot.now h_dot.now) second_epoch_year second_g.now second_h.now) (early year) (epoch_offset year day_of_year) v }
+    ensures kept { (g.exit.now ≡ g.entry.now) × (h.exit.now ≡ h.entry.now) × (g_dot.exit.now ≡ g_dot.entry.now) × (h_dot.exit.now ≡ h_dot.entry.now) × (second_g.exit.now ≡ second_g.entry.now) × (second_h.exit.now ≡ second_h.entry.now) }
 {
     let latitude = Latitude {
         sin: sin_phi,
@@ -193,8 +193,8 @@ fn tell_allowance(
     entry: &mut [usize; 2],
     years: &mut [i32; 2],
 ) -> u32
-    ensures* { λ r. ⌜ (r ≡ number_of (said answer)) × (allowances.new ≡ result allowance_floats allowances.old (said answer))
-        × (entry.new ≡ entry_place entry.old (said answer)) × (years.new ≡ years_place years.old (said answer)) ⌝ }
+    ensures { (result ≡ number_of (said answer)) × (allowances.new ≡ result_place allowance_floats allowances.old (said answer))
+        × (entry.new ≡ entry_place entry.old (said answer)) × (years.new ≡ years_place years.old (said answer)) }
 {
     match answer {
         AllowanceAnswer::Allowance(v) => {

@@ -2,7 +2,7 @@
 ghost use Rattle.std.specs.Prelude.{◌≡◌};
 ghost use Rattle.lists.specs.Sets.{lists_of};
 ghost use Rattle.agency.specs.Cof.{read_of};
-ghost use Rattle.ffi.specs.Told.{number_of, result, entry_place, where_place, whole};
+ghost use Rattle.ffi.specs.Told.{number_of, result_place, entry_place, where_place, whole};
 
 use crate::tell::tell_read;
 
@@ -17,11 +17,11 @@ pub extern "C" fn njerumoy_read_cof(
     entry: &mut [usize; 2],
     line: &mut usize,
 ) -> u32
-    ensures* fact { λ r. ⌜ (let s = read_of text.now (lists_of g.old h.old g_dot.old h_dot.old) in
-        (r ≡ number_of s.says) × (lists_of g.new h.new g_dot.new h_dot.new ≡ s.lists)
-        × (epoch_year.new ≡ result whole epoch_year.old s.says)
-        × (entry.new ≡ entry_place entry.old s.says) × (line.new ≡ where_place line.old s.says)) ⌝ }
-    ensures* kept { λ _. ⌜ text.now ≡ text.now ⌝ }
+    ensures answer { let s = read_of text.now (lists_of g.old h.old g_dot.old h_dot.old) in
+        (result ≡ number_of s.says) × (lists_of g.new h.new g_dot.new h_dot.new ≡ s.lists)
+        × (epoch_year.new ≡ result_place whole epoch_year.old s.says)
+        × (entry.new ≡ entry_place entry.old s.says) × (line.new ≡ where_place line.old s.says) }
+    ensures kept { text.exit.now ≡ text.entry.now }
 {
     let answer = agency::read(text, g, h, g_dot, h_dot);
     tell_read(answer, epoch_year, entry, line)

@@ -3,7 +3,7 @@ ghost use Rattle.std.specs.Prelude.{◌≡◌};
 ghost use Rattle.lists.specs.Sets.{afterwards, lists_of};
 ghost use Rattle.stored.specs.Stored.{entries_in, read_either_of, says_of};
 ghost use Rattle.field.specs.Field as field;
-ghost use Rattle.ffi.specs.Told.{number_of, result, entry_place, where_place, years_place, field_floats, error_floats, either_field};
+ghost use Rattle.ffi.specs.Told.{number_of, result_place, entry_place, where_place, years_place, field_floats, error_floats, either_field};
 
 use crate::sets::note_where_read;
 use crate::tell::tell_field;
@@ -30,7 +30,7 @@ fn field_by(
     h_dot: &mut [f32],
 ) -> FieldAnswer
     requires { read_either_of stored.now (lists_of g.old h.old g_dot.old h_dot.old) ≡ afterwards (says_of (entries_in stored.now) stored.now) (lists_of g.old h.old g_dot.old h_dot.old) }
-    ensures* { λ r. ⌜ field.said r ≡ either_field stored.now height latitude.sin latitude.cos longitude.sin longitude.cos day.year day.day_of_year ⌝ }
+    ensures { field.said result ≡ either_field stored.now height latitude.sin latitude.cos longitude.sin longitude.cos day.year day.day_of_year }
 {
     match stored::read_either(stored, g, h, g_dot, h_dot) {
         ReadAnswer::Refused(k) => FieldAnswer::Refused(k),
@@ -49,7 +49,7 @@ fn field_either(
     longitude: Longitude,
     day: Day,
 ) -> FieldAnswer
-    ensures* { λ r. ⌜ field.said r ≡ either_field stored.now height latitude.sin latitude.cos longitude.sin longitude.cos day.year day.day_of_year ⌝ }
+    ensures { field.said result ≡ either_field stored.now height latitude.sin latitude.cos longitude.sin longitude.cos day.year day.day_of_year }
 {
     if stored.len() == LONGER_LENGTH {
         let mut g = [0.0f32; N_COEFF_MAX];
@@ -85,10 +85,10 @@ pub extern "C" fn njerumoy_field_stored_either(
     years: &mut [i32; 2],
     place: &mut usize,
 ) -> u32
-    ensures* fact { λ r. ⌜ (let p = either_field stored.now height sin_phi cos_phi sin_lambda cos_lambda year day_of_year in
-        (r ≡ number_of p) × (xyz.new ≡ result field_floats xyz.old p) × (errors.new ≡ result error_floats errors.old p)
-        × (entry.new ≡ entry_place entry.old p) × (years.new ≡ years_place years.old p) × (place.new ≡ where_place place.old p)) ⌝ }
-    ensures* kept { λ _. ⌜ stored.now ≡ stored.now ⌝ }
+    ensures answer { let p = either_field stored.now height sin_phi cos_phi sin_lambda cos_lambda year day_of_year in
+        (result ≡ number_of p) × (xyz.new ≡ result_place field_floats xyz.old p) × (errors.new ≡ result_place error_floats errors.old p)
+        × (entry.new ≡ entry_place entry.old p) × (years.new ≡ years_place years.old p) × (place.new ≡ where_place place.old p) }
+    ensures kept { stored.exit.now ≡ stored.entry.now }
 {
     let latitude = Latitude {
         sin: sin_phi,

@@ -5,7 +5,7 @@ ghost use Rattle.std.specs.Prelude.{◌≡◌};
 ghost use Rattle.models.specs.Errors.{error_said};
 ghost use Rattle.strengths.specs.Strengths.{bare, uncertainty_with, listed_uncertainty};
 ghost use Rattle.field.specs.Field.{asked, field_with, listed_field};
-ghost use Rattle.ffi.specs.Told.{number_of, result, itself, entry_place, years_place, field_floats, error_floats};
+ghost use Rattle.ffi.specs.Told.{number_of, result_place, itself, entry_place, years_place, field_floats, error_floats};
 
 use crate::tell::{tell_field, tell_strength};
 use field::Latitude;
@@ -33,9 +33,9 @@ fn told_field(
     entry: &mut [usize; 2],
     years: &mut [i32; 2],
 ) -> u32
-    ensures* { λ r. ⌜ (let p = field_with (error_said figures) (asked height sin_phi cos_phi sin_lambda cos_lambda epoch_year g.now h.now g_dot.now h_dot.now) year day_of_year in
-        (r ≡ number_of p) × (xyz.new ≡ result field_floats xyz.old p) × (errors.new ≡ result error_floats errors.old p)
-        × (entry.new ≡ entry_place entry.old p) × (years.new ≡ years_place years.old p)) ⌝ }
+    ensures { let p = field_with (error_said figures) (asked height sin_phi cos_phi sin_lambda cos_lambda epoch_year g.now h.now g_dot.now h_dot.now) year day_of_year in
+        (result ≡ number_of p) × (xyz.new ≡ result_place field_floats xyz.old p) × (errors.new ≡ result_place error_floats errors.old p)
+        × (entry.new ≡ entry_place entry.old p) × (years.new ≡ years_place years.old p) }
 {
     let latitude = Latitude {
         sin: sin_phi,
@@ -53,8 +53,8 @@ fn told_field(
 }
 
 fn told_uncertainty(x: f32, y: f32, z: f32, figures: ErrorModelAnswer, uncertainty: &mut f32) -> u32
-    ensures* { λ r. ⌜ (let p = uncertainty_with (error_said figures) (bare x y z) in
-        (r ≡ number_of p) × (uncertainty.new ≡ result itself uncertainty.old p)) ⌝ }
+    ensures { let p = uncertainty_with (error_said figures) (bare x y z) in
+        (result ≡ number_of p) × (uncertainty.new ≡ result_place itself uncertainty.old p) }
 {
     tell_strength(bare_record(x, y, z).uncertainty_with(figures), uncertainty)
 }
@@ -79,10 +79,10 @@ pub extern "C" fn njerumoy_field_listed(
     entry: &mut [usize; 2],
     years: &mut [i32; 2],
 ) -> u32
-    ensures* fact { λ r. ⌜ (let p = listed_field records.now (asked height sin_phi cos_phi sin_lambda cos_lambda epoch_year g.now h.now g_dot.now h_dot.now) year day_of_year in
-        (r ≡ number_of p) × (xyz.new ≡ result field_floats xyz.old p) × (errors.new ≡ result error_floats errors.old p)
-        × (entry.new ≡ entry_place entry.old p) × (years.new ≡ years_place years.old p)) ⌝ }
-    ensures* kept { λ _. ⌜ (g.now ≡ g.now) × (h.now ≡ h.now) × (g_dot.now ≡ g_dot.now) × (h_dot.now ≡ h_dot.now) × (records.now ≡ records.now) ⌝ }
+    ensures answer { let p = listed_field records.now (asked height sin_phi cos_phi sin_lambda cos_lambda epoch_year g.now h.now g_dot.now h_dot.now) year day_of_year in
+        (result ≡ number_of p) × (xyz.new ≡ result_place field_floats xyz.old p) × (errors.new ≡ result_place error_floats errors.old p)
+        × (entry.new ≡ entry_place entry.old p) × (years.new ≡ years_place years.old p) }
+    ensures kept { (g.exit.now ≡ g.entry.now) × (h.exit.now ≡ h.entry.now) × (g_dot.exit.now ≡ g_dot.entry.now) × (h_dot.exit.now ≡ h_dot.entry.now) × (records.exit.now ≡ records.entry.now) }
 {
     let figures = models::error_model_listed(records, epoch_year);
     told_field(
@@ -115,9 +115,9 @@ pub extern "C" fn njerumoy_declination_uncertainty_listed(
     records: &[ErrorRecord],
     uncertainty: &mut f32,
 ) -> u32
-    ensures* fact { λ r. ⌜ (let p = listed_uncertainty (bare x y z) records.now epoch_year in
-        (r ≡ number_of p) × (uncertainty.new ≡ result itself uncertainty.old p)) ⌝ }
-    ensures* kept { λ _. ⌜ records.now ≡ records.now ⌝ }
+    ensures answer { let p = listed_uncertainty (bare x y z) records.now epoch_year in
+        (result ≡ number_of p) × (uncertainty.new ≡ result_place itself uncertainty.old p) }
+    ensures kept { records.exit.now ≡ records.entry.now }
 {
     let figures = models::error_model_listed(records, epoch_year);
     told_uncertainty(x, y, z, figures, uncertainty)

@@ -4,7 +4,7 @@ ghost use Rattle.models.specs.Epochs.{epoch_offset};
 ghost use Rattle.synthesis.specs.declared.Xyz.{Xyz};
 ghost use Rattle.field.specs.Field.{asked};
 ghost use Rattle.igrf.specs.Igrf.{IgrfClose, early, igrf_says, profile, said};
-ghost use Rattle.ffi.specs.Told.{number_of, result, entry_place, years_place, xyz_floats};
+ghost use Rattle.ffi.specs.Told.{number_of, result_place, entry_place, years_place, xyz_floats};
 
 use crate::refuse::tell_refusal;
 use field::Latitude;
@@ -19,8 +19,8 @@ fn tell_igrf(
     entry: &mut [usize; 2],
     years: &mut [i32; 2],
 ) -> u32
-    ensures* { λ r. ⌜ (r ≡ number_of (said answer)) × (xyz.new ≡ result xyz_floats xyz.old (said answer))
-        × (entry.new ≡ entry_place entry.old (said answer)) × (years.new ≡ years_place years.old (said answer)) ⌝ }
+    ensures { (result ≡ number_of (said answer)) × (xyz.new ≡ result_place xyz_floats xyz.old (said answer))
+        × (entry.new ≡ entry_place entry.old (said answer)) × (years.new ≡ years_place years.old (said answer)) }
 {
     match answer {
         IgrfAnswer::Components(v) => {
@@ -53,12 +53,12 @@ pub extern "C" fn njerumoy_igrf(
     entry: &mut [usize; 2],
     years: &mut [i32; 2],
 ) -> u32
-    ensures* answer { λ r. ⌜ (let p = igrf_says (profile (asked height sin_phi cos_phi sin_lambda cos_lambda epoch_year g.now h.now g_dot.now h_dot.now) second_epoch_year second_g.now second_h.now) year day_of_year in
-        (r ≡ number_of p) × (xyz.new ≡ result xyz_floats xyz.old p)
-        × (entry.new ≡ entry_place entry.old p) × (years.new ≡ years_place years.old p)) ⌝ }
-    ensures* distance { λ r. ⌜ (r ≡ 0 → (v : Xyz) × (xyz.new ≡ xyz_floats v)
-        × IgrfClose (profile (asked height sin_phi cos_phi sin_lambda cos_lambda epoch_year g.now h.now g_dot.now h_dot.now) second_epoch_year second_g.now second_h.now) (early year) (epoch_offset year day_of_year) v) ⌝ }
-    ensures* kept { λ _. ⌜ (g.now ≡ g.now) × (h.now ≡ h.now) × (g_dot.now ≡ g_dot.now) × (h_dot.now ≡ h_dot.now) × (second_g.now ≡ second_g.now) × (second_h.now ≡ second_h.now) ⌝ }
+    ensures answer { let p = igrf_says (profile (asked height sin_phi cos_phi sin_lambda cos_lambda epoch_year g.now h.now g_dot.now h_dot.now) second_epoch_year second_g.now second_h.now) year day_of_year in
+        (result ≡ number_of p) × (xyz.new ≡ result_place xyz_floats xyz.old p)
+        × (entry.new ≡ entry_place entry.old p) × (years.new ≡ years_place years.old p) }
+    ensures distance { result ≡ 0 → (v : Xyz) × (xyz.new ≡ xyz_floats v)
+        × IgrfClose (profile (asked height sin_phi cos_phi sin_lambda cos_lambda epoch_year g.now h.now g_dot.now h_dot.now) second_epoch_year second_g.now second_h.now) (early year) (epoch_offset year day_of_year) v }
+    ensures kept { (g.exit.now ≡ g.entry.now) × (h.exit.now ≡ h.entry.now) × (g_dot.exit.now ≡ g_dot.entry.now) × (h_dot.exit.now ≡ h_dot.entry.now) × (second_g.exit.now ≡ second_g.entry.now) × (second_h.exit.now ≡ second_h.entry.now) }
 {
     let latitude = Latitude {
         sin: sin_phi,

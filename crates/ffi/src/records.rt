@@ -4,7 +4,7 @@ ghost use Rattle.roots.specs.Answer.{root_says};
 ghost use Rattle.strengths.specs.Strengths.{bare, h_of, f_of, strength_says, zone_says, uncertainty_says};
 ghost use Rattle.strengths.specs.Angles.{declination_of, inclination_of};
 ghost use Rattle.strengths.specs.Grid.{grid_says};
-ghost use Rattle.ffi.specs.Told.{number_of, result, itself, zone_number, is_given, variation_place};
+ghost use Rattle.ffi.specs.Told.{number_of, result_place, itself, zone_number, is_given, variation_place};
 
 use crate::tell::tell_strength;
 use refusals::number;
@@ -13,24 +13,24 @@ use strengths::{GridAnswer, ZoneAnswer, bare_record};
 
 #[unsafe(no_mangle)]
 pub extern "C" fn njerumoy_horizontal(x: f32, y: f32, z: f32, h: &mut f32) -> u32
-    ensures* { λ r. ⌜ (let p = strength_says (bare x y z) (h_of (bare x y z)) in
-        (r ≡ number_of p) × (h.new ≡ result itself h.old p)) ⌝ }
+    ensures { let p = strength_says (bare x y z) (h_of (bare x y z)) in
+        (result ≡ number_of p) × (h.new ≡ result_place itself h.old p) }
 {
     tell_strength(bare_record(x, y, z).h(), h)
 }
 
 #[unsafe(no_mangle)]
 pub extern "C" fn njerumoy_total(x: f32, y: f32, z: f32, f: &mut f32) -> u32
-    ensures* { λ r. ⌜ (let p = strength_says (bare x y z) (f_of (bare x y z)) in
-        (r ≡ number_of p) × (f.new ≡ result itself f.old p)) ⌝ }
+    ensures { let p = strength_says (bare x y z) (f_of (bare x y z)) in
+        (result ≡ number_of p) × (f.new ≡ result_place itself f.old p) }
 {
     tell_strength(bare_record(x, y, z).f(), f)
 }
 
 #[unsafe(no_mangle)]
 pub extern "C" fn njerumoy_zone(x: f32, y: f32, z: f32, zone: &mut u32) -> u32
-    ensures* { λ r. ⌜ (let p = zone_says (bare x y z) in
-        (r ≡ number_of p) × (zone.new ≡ result zone_number zone.old p)) ⌝ }
+    ensures { let p = zone_says (bare x y z) in
+        (result ≡ number_of p) × (zone.new ≡ result_place zone_number zone.old p) }
 {
     match bare_record(x, y, z).declination_warning() {
         ZoneAnswer::Blackout => {
@@ -51,16 +51,16 @@ pub extern "C" fn njerumoy_zone(x: f32, y: f32, z: f32, zone: &mut u32) -> u32
 
 #[unsafe(no_mangle)]
 pub extern "C" fn njerumoy_field_declination(x: f32, y: f32, z: f32, declination: &mut f32) -> u32
-    ensures* { λ r. ⌜ (let p = strength_says (bare x y z) (declination_of (bare x y z)) in
-        (r ≡ number_of p) × (declination.new ≡ result itself declination.old p)) ⌝ }
+    ensures { let p = strength_says (bare x y z) (declination_of (bare x y z)) in
+        (result ≡ number_of p) × (declination.new ≡ result_place itself declination.old p) }
 {
     tell_strength(bare_record(x, y, z).declination(), declination)
 }
 
 #[unsafe(no_mangle)]
 pub extern "C" fn njerumoy_inclination(x: f32, y: f32, z: f32, inclination: &mut f32) -> u32
-    ensures* { λ r. ⌜ (let p = strength_says (bare x y z) (inclination_of (bare x y z)) in
-        (r ≡ number_of p) × (inclination.new ≡ result itself inclination.old p)) ⌝ }
+    ensures { let p = strength_says (bare x y z) (inclination_of (bare x y z)) in
+        (result ≡ number_of p) × (inclination.new ≡ result_place itself inclination.old p) }
 {
     tell_strength(bare_record(x, y, z).inclination(), inclination)
 }
@@ -73,8 +73,8 @@ pub extern "C" fn njerumoy_declination_uncertainty(
     epoch_year: i32,
     uncertainty: &mut f32,
 ) -> u32
-    ensures* { λ r. ⌜ (let p = uncertainty_says (bare x y z) epoch_year in
-        (r ≡ number_of p) × (uncertainty.new ≡ result itself uncertainty.old p)) ⌝ }
+    ensures { let p = uncertainty_says (bare x y z) epoch_year in
+        (result ≡ number_of p) × (uncertainty.new ≡ result_place itself uncertainty.old p) }
 {
     let answer = bare_record(x, y, z).declination_uncertainty(epoch_year);
     tell_strength(answer, uncertainty)
@@ -88,8 +88,8 @@ pub extern "C" fn njerumoy_grid_variation(
     given: &mut u32,
     variation: &mut f32,
 ) -> u32
-    ensures* { λ r. ⌜ (let p = grid_says latitude_deg longitude_deg declination_deg in
-        (r ≡ number_of p) × (given.new ≡ result is_given given.old p) × (variation.new ≡ variation_place variation.old p)) ⌝ }
+    ensures { let p = grid_says latitude_deg longitude_deg declination_deg in
+        (result ≡ number_of p) × (given.new ≡ result_place is_given given.old p) × (variation.new ≡ variation_place variation.old p) }
 {
     match strengths::grid_variation(latitude_deg, longitude_deg, declination_deg) {
         GridAnswer::Variation(v) => {
@@ -107,8 +107,8 @@ pub extern "C" fn njerumoy_grid_variation(
 
 #[unsafe(no_mangle)]
 pub extern "C" fn njerumoy_square_root(x: f32, root: &mut f32) -> u32
-    ensures* { λ r. ⌜ (let p = root_says x in
-        (r ≡ number_of p) × (root.new ≡ result itself root.old p)) ⌝ }
+    ensures { let p = root_says x in
+        (result ≡ number_of p) × (root.new ≡ result_place itself root.old p) }
 {
     match roots::square_root(x) {
         RootAnswer::Root(r) => {

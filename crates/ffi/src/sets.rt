@@ -3,7 +3,7 @@ ghost use Rattle.std.specs.Prelude.{◌≡◌};
 ghost use Rattle.lists.specs.Sets.{lists_of};
 ghost use Rattle.stored.specs.Stored.{read_either_of, read_of, write_either_of, write_of};
 ghost use Rattle.field.specs.Field as field;
-ghost use Rattle.ffi.specs.Told.{number_of, result, entry_place, where_place, years_place, verdict_number, verdict_entry, whole, field_floats, error_floats, stored_field};
+ghost use Rattle.ffi.specs.Told.{number_of, result_place, entry_place, where_place, years_place, verdict_number, verdict_entry, whole, field_floats, error_floats, stored_field};
 
 use crate::refuse::{note_entry, note_where};
 use crate::tell::{tell_field, tell_read};
@@ -24,11 +24,11 @@ pub extern "C" fn njerumoy_read_stored(
     entry: &mut [usize; 2],
     place: &mut usize,
 ) -> u32
-    ensures* fact { λ r. ⌜ (let s = read_of stored.now (lists_of g.old h.old g_dot.old h_dot.old) in
-        (r ≡ number_of s.says) × (lists_of g.new h.new g_dot.new h_dot.new ≡ s.lists)
-        × (epoch_year.new ≡ result whole epoch_year.old s.says)
-        × (entry.new ≡ entry_place entry.old s.says) × (place.new ≡ where_place place.old s.says)) ⌝ }
-    ensures* kept { λ _. ⌜ stored.now ≡ stored.now ⌝ }
+    ensures answer { let s = read_of stored.now (lists_of g.old h.old g_dot.old h_dot.old) in
+        (result ≡ number_of s.says) × (lists_of g.new h.new g_dot.new h_dot.new ≡ s.lists)
+        × (epoch_year.new ≡ result_place whole epoch_year.old s.says)
+        × (entry.new ≡ entry_place entry.old s.says) × (place.new ≡ where_place place.old s.says) }
+    ensures kept { stored.exit.now ≡ stored.entry.now }
 {
     let answer = stored::read(stored, g, h, g_dot, h_dot);
     tell_read(answer, epoch_year, entry, place)
@@ -46,11 +46,11 @@ pub extern "C" fn njerumoy_read_stored_either(
     entry: &mut [usize; 2],
     place: &mut usize,
 ) -> u32
-    ensures* fact { λ r. ⌜ (let s = read_either_of stored.now (lists_of g.old h.old g_dot.old h_dot.old) in
-        (r ≡ number_of s.says) × (lists_of g.new h.new g_dot.new h_dot.new ≡ s.lists)
-        × (epoch_year.new ≡ result whole epoch_year.old s.says)
-        × (entry.new ≡ entry_place entry.old s.says) × (place.new ≡ where_place place.old s.says)) ⌝ }
-    ensures* kept { λ _. ⌜ stored.now ≡ stored.now ⌝ }
+    ensures answer { let s = read_either_of stored.now (lists_of g.old h.old g_dot.old h_dot.old) in
+        (result ≡ number_of s.says) × (lists_of g.new h.new g_dot.new h_dot.new ≡ s.lists)
+        × (epoch_year.new ≡ result_place whole epoch_year.old s.says)
+        × (entry.new ≡ entry_place entry.old s.says) × (place.new ≡ where_place place.old s.says) }
+    ensures kept { stored.exit.now ≡ stored.entry.now }
 {
     let answer = stored::read_either(stored, g, h, g_dot, h_dot);
     tell_read(answer, epoch_year, entry, place)
@@ -66,9 +66,9 @@ pub extern "C" fn njerumoy_write_stored(
     stored: &mut [u8],
     entry: &mut [usize; 2],
 ) -> u32
-    ensures* fact { λ r. ⌜ (let w = write_of epoch_year (lists_of g.now h.now g_dot.now h_dot.now) stored.old in
-        (r ≡ verdict_number w.found) × (stored.new ≡ w.bytes) × (entry.new ≡ verdict_entry entry.old w.found)) ⌝ }
-    ensures* kept { λ _. ⌜ (g.now ≡ g.now) × (h.now ≡ h.now) × (g_dot.now ≡ g_dot.now) × (h_dot.now ≡ h_dot.now) ⌝ }
+    ensures answer { let w = write_of epoch_year (lists_of g.now h.now g_dot.now h_dot.now) stored.old in
+        (result ≡ verdict_number w.found) × (stored.new ≡ w.bytes) × (entry.new ≡ verdict_entry entry.old w.found) }
+    ensures kept { (g.exit.now ≡ g.entry.now) × (h.exit.now ≡ h.entry.now) × (g_dot.exit.now ≡ g_dot.entry.now) × (h_dot.exit.now ≡ h_dot.entry.now) }
 {
     tell_verdict(stored::write(epoch_year, g, h, g_dot, h_dot, stored), entry)
 }
@@ -84,9 +84,9 @@ pub extern "C" fn njerumoy_write_stored_either(
     stored: &mut [u8],
     entry: &mut [usize; 2],
 ) -> u32
-    ensures* fact { λ r. ⌜ (let w = write_either_of epoch_year (lists_of g.now h.now g_dot.now h_dot.now) stored.old in
-        (r ≡ verdict_number w.found) × (stored.new ≡ w.bytes) × (entry.new ≡ verdict_entry entry.old w.found)) ⌝ }
-    ensures* kept { λ _. ⌜ (g.now ≡ g.now) × (h.now ≡ h.now) × (g_dot.now ≡ g_dot.now) × (h_dot.now ≡ h_dot.now) ⌝ }
+    ensures answer { let w = write_either_of epoch_year (lists_of g.now h.now g_dot.now h_dot.now) stored.old in
+        (result ≡ verdict_number w.found) × (stored.new ≡ w.bytes) × (entry.new ≡ verdict_entry entry.old w.found) }
+    ensures kept { (g.exit.now ≡ g.entry.now) × (h.exit.now ≡ h.entry.now) × (g_dot.exit.now ≡ g_dot.entry.now) × (h_dot.exit.now ≡ h_dot.entry.now) }
 {
     tell_verdict(
         stored::write_either(epoch_year, g, h, g_dot, h_dot, stored),
@@ -96,7 +96,7 @@ pub extern "C" fn njerumoy_write_stored_either(
 
 // Whether the set was written, and what a refusal of the lists carries.
 fn tell_verdict(found: Verdict, entry: &mut [usize; 2]) -> u32
-    ensures* { λ r. ⌜ (r ≡ verdict_number found) × (entry.new ≡ verdict_entry entry.old found) ⌝ }
+    ensures { (result ≡ verdict_number found) × (entry.new ≡ verdict_entry entry.old found) }
 {
     match found {
         Verdict::Accepted => 0,
@@ -116,7 +116,7 @@ fn field_of(
     longitude: Longitude,
     day: Day,
 ) -> FieldAnswer
-    ensures* { λ r. ⌜ field.said r ≡ stored_field stored.now height latitude.sin latitude.cos longitude.sin longitude.cos day.year day.day_of_year ⌝ }
+    ensures { field.said result ≡ stored_field stored.now height latitude.sin latitude.cos longitude.sin longitude.cos day.year day.day_of_year }
 {
     let mut g = [0.0f32; N_COEFF];
     let mut h = [0.0f32; N_COEFF];
@@ -132,7 +132,7 @@ fn field_of(
 
 // The place in the bytes, where the reader refused them.
 pub fn note_where_read(answer: FieldAnswer, place: &mut usize)
-    ensures* { λ _. ⌜ place.new ≡ where_place place.old (field.said answer) ⌝ }
+    ensures { place.new ≡ where_place place.old (field.said answer) }
 {
     if let FieldAnswer::Refused(k) = answer {
         note_where(k, place);
@@ -155,10 +155,10 @@ pub extern "C" fn njerumoy_field_stored(
     years: &mut [i32; 2],
     place: &mut usize,
 ) -> u32
-    ensures* fact { λ r. ⌜ (let p = stored_field stored.now height sin_phi cos_phi sin_lambda cos_lambda year day_of_year in
-        (r ≡ number_of p) × (xyz.new ≡ result field_floats xyz.old p) × (errors.new ≡ result error_floats errors.old p)
-        × (entry.new ≡ entry_place entry.old p) × (years.new ≡ years_place years.old p) × (place.new ≡ where_place place.old p)) ⌝ }
-    ensures* kept { λ _. ⌜ stored.now ≡ stored.now ⌝ }
+    ensures answer { let p = stored_field stored.now height sin_phi cos_phi sin_lambda cos_lambda year day_of_year in
+        (result ≡ number_of p) × (xyz.new ≡ result_place field_floats xyz.old p) × (errors.new ≡ result_place error_floats errors.old p)
+        × (entry.new ≡ entry_place entry.old p) × (years.new ≡ years_place years.old p) × (place.new ≡ where_place place.old p) }
+    ensures kept { stored.exit.now ≡ stored.entry.now }
 {
     let latitude = Latitude {
         sin: sin_phi,

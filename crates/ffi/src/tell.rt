@@ -3,7 +3,7 @@ ghost use Rattle.std.specs.Prelude.{◌≡◌};
 ghost use Rattle.lists.specs.Sets as sets;
 ghost use Rattle.strengths.specs.Strengths.{strength_said};
 ghost use Rattle.field.specs.Field.{said};
-ghost use Rattle.ffi.specs.Told.{number_of, result, itself, whole, entry_place, where_place, years_place, field_floats, error_floats};
+ghost use Rattle.ffi.specs.Told.{number_of, result_place, itself, whole, entry_place, where_place, years_place, field_floats, error_floats};
 
 use crate::refuse::{note_entry, note_where, tell_refusal};
 use field::FieldAnswer;
@@ -13,7 +13,7 @@ use strengths::StrengthAnswer;
 
 // A strength, in its place.
 pub fn tell_strength(answer: StrengthAnswer, place: &mut f32) -> u32
-    ensures* { λ r. ⌜ (r ≡ number_of (strength_said answer)) × (place.new ≡ result itself place.old (strength_said answer)) ⌝ }
+    ensures { (result ≡ number_of (strength_said answer)) × (place.new ≡ result_place itself place.old (strength_said answer)) }
 {
     match answer {
         StrengthAnswer::Strength(s) => {
@@ -32,8 +32,8 @@ pub fn tell_field(
     entry: &mut [usize; 2],
     years: &mut [i32; 2],
 ) -> u32
-    ensures* { λ r. ⌜ (r ≡ number_of (said answer)) × (xyz.new ≡ result field_floats xyz.old (said answer)) × (errors.new ≡ result error_floats errors.old (said answer))
-        × (entry.new ≡ entry_place entry.old (said answer)) × (years.new ≡ years_place years.old (said answer)) ⌝ }
+    ensures { (result ≡ number_of (said answer)) × (xyz.new ≡ result_place field_floats xyz.old (said answer)) × (errors.new ≡ result_place error_floats errors.old (said answer))
+        × (entry.new ≡ entry_place entry.old (said answer)) × (years.new ≡ years_place years.old (said answer)) }
 {
     match answer {
         FieldAnswer::Field(v) => {
@@ -62,8 +62,8 @@ pub fn tell_read(
     entry: &mut [usize; 2],
     place: &mut usize,
 ) -> u32
-    ensures* { λ r. ⌜ (r ≡ number_of (sets.said answer)) × (epoch_year.new ≡ result whole epoch_year.old (sets.said answer))
-        × (entry.new ≡ entry_place entry.old (sets.said answer)) × (place.new ≡ where_place place.old (sets.said answer)) ⌝ }
+    ensures { (result ≡ number_of (sets.said answer)) × (epoch_year.new ≡ result_place whole epoch_year.old (sets.said answer))
+        × (entry.new ≡ entry_place entry.old (sets.said answer)) × (place.new ≡ where_place place.old (sets.said answer)) }
 {
     match answer {
         ReadAnswer::Epoch(year) => {

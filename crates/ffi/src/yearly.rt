@@ -5,7 +5,7 @@ ghost use Rattle.igrf.specs.Igrf.{RateClose, early, profile};
 ghost use Rattle.rates.specs.declared.YearlyRates.{YearlyRates};
 ghost use Rattle.rates.specs.Profile.{igrf_rates_says};
 ghost use Rattle.rates.specs.Rates.{AllFinite, rates_says, said};
-ghost use Rattle.ffi.specs.Told.{number_of, result, entry_place, years_place, rate_floats};
+ghost use Rattle.ffi.specs.Told.{number_of, result_place, entry_place, years_place, rate_floats};
 
 use crate::refuse::tell_refusal;
 use field::Latitude;
@@ -20,8 +20,8 @@ fn tell_rates(
     entry: &mut [usize; 2],
     years: &mut [i32; 2],
 ) -> u32
-    ensures* { λ r. ⌜ (r ≡ number_of (said answer)) × (rates.new ≡ result rate_floats rates.old (said answer))
-        × (entry.new ≡ entry_place entry.old (said answer)) × (years.new ≡ years_place years.old (said answer)) ⌝ }
+    ensures { (result ≡ number_of (said answer)) × (rates.new ≡ result_place rate_floats rates.old (said answer))
+        × (entry.new ≡ entry_place entry.old (said answer)) × (years.new ≡ years_place years.old (said answer)) }
 {
     match answer {
         RatesAnswer::Rates(v) => {
@@ -50,10 +50,10 @@ pub extern "C" fn njerumoy_rates(
     entry: &mut [usize; 2],
     years: &mut [i32; 2],
 ) -> u32
-    ensures* fact { λ r. ⌜ (let p = rates_says (asked height sin_phi cos_phi sin_lambda cos_lambda epoch_year g.now h.now g_dot.now h_dot.now) year day_of_year in
-        (r ≡ number_of p) × (rates.new ≡ result rate_floats rates.old p)
-        × (entry.new ≡ entry_place entry.old p) × (years.new ≡ years_place years.old p)) ⌝ }
-    ensures* kept { λ _. ⌜ (g.now ≡ g.now) × (h.now ≡ h.now) × (g_dot.now ≡ g_dot.now) × (h_dot.now ≡ h_dot.now) ⌝ }
+    ensures answer { let p = rates_says (asked height sin_phi cos_phi sin_lambda cos_lambda epoch_year g.now h.now g_dot.now h_dot.now) year day_of_year in
+        (result ≡ number_of p) × (rates.new ≡ result_place rate_floats rates.old p)
+        × (entry.new ≡ entry_place entry.old p) × (years.new ≡ years_place years.old p) }
+    ensures kept { (g.exit.now ≡ g.entry.now) × (h.exit.now ≡ h.entry.now) × (g_dot.exit.now ≡ g_dot.entry.now) × (h_dot.exit.now ≡ h_dot.entry.now) }
 {
     let latitude = Latitude {
         sin: sin_phi,
@@ -93,12 +93,12 @@ pub extern "C" fn njerumoy_igrf_rates(
     entry: &mut [usize; 2],
     years: &mut [i32; 2],
 ) -> u32
-    ensures* answer { λ r. ⌜ (let p = igrf_rates_says (profile (asked height sin_phi cos_phi sin_lambda cos_lambda epoch_year g.now h.now g_dot.now h_dot.now) second_epoch_year second_g.now second_h.now) year day_of_year in
-        (r ≡ number_of p) × (rates.new ≡ result rate_floats rates.old p)
-        × (entry.new ≡ entry_place entry.old p) × (years.new ≡ years_place years.old p)) ⌝ }
-    ensures* distance { λ r. ⌜ (r ≡ 0 → (v : YearlyRates) × (rates.new ≡ rate_floats v)
-        × (RateClose (profile (asked height sin_phi cos_phi sin_lambda cos_lambda epoch_year g.now h.now g_dot.now h_dot.now) second_epoch_year second_g.now second_h.now) (early year) v.x v.y v.z × AllFinite v)) ⌝ }
-    ensures* kept { λ _. ⌜ (g.now ≡ g.now) × (h.now ≡ h.now) × (g_dot.now ≡ g_dot.now) × (h_dot.now ≡ h_dot.now) × (second_g.now ≡ second_g.now) × (second_h.now ≡ second_h.now) ⌝ }
+    ensures answer { let p = igrf_rates_says (profile (asked height sin_phi cos_phi sin_lambda cos_lambda epoch_year g.now h.now g_dot.now h_dot.now) second_epoch_year second_g.now second_h.now) year day_of_year in
+        (result ≡ number_of p) × (rates.new ≡ result_place rate_floats rates.old p)
+        × (entry.new ≡ entry_place entry.old p) × (years.new ≡ years_place years.old p) }
+    ensures distance { result ≡ 0 → (v : YearlyRates) × (rates.new ≡ rate_floats v)
+        × (RateClose (profile (asked height sin_phi cos_phi sin_lambda cos_lambda epoch_year g.now h.now g_dot.now h_dot.now) second_epoch_year second_g.now second_h.now) (early year) v.x v.y v.z × AllFinite v) }
+    ensures kept { (g.exit.now ≡ g.entry.now) × (h.exit.now ≡ h.entry.now) × (g_dot.exit.now ≡ g_dot.entry.now) × (h_dot.exit.now ≡ h_dot.entry.now) × (second_g.exit.now ≡ second_g.entry.now) × (second_h.exit.now ≡ second_h.entry.now) }
 {
     let latitude = Latitude {
         sin: sin_phi,

@@ -25,7 +25,7 @@ pub fn field_listed(
 ) -> FieldAnswer
     ensures answer { said result ≡ listed_field records.now (asked height latitude.sin latitude.cos longitude.sin longitude.cos epoch_year g.now h.now g_dot.now h_dot.now) day.year day.day_of_year }
     ensures distance { (v : GeomagneticField) → result ≡ FieldAnswer.Field v → FieldClose (asked height latitude.sin latitude.cos longitude.sin longitude.cos epoch_year g.now h.now g_dot.now h_dot.now) (epoch_offset day.year day.day_of_year) v }
-    ensures kept { (g.now ≡ g.now) × (h.now ≡ h.now) × (g_dot.now ≡ g_dot.now) × (h_dot.now ≡ h_dot.now) × (records.now ≡ records.now) }
+    ensures kept { (g.exit.now ≡ g.entry.now) × (h.exit.now ≡ h.entry.now) × (g_dot.exit.now ≡ g_dot.entry.now) × (h_dot.exit.now ≡ h_dot.entry.now) × (records.exit.now ≡ records.entry.now) }
 {
     let figures = models::error_model_listed(records, epoch_year);
     field_with(

@@ -111,7 +111,7 @@ fn are_alike(g: &[f32], h: &[f32], g_dot: &[f32], h_dot: &[f32]) -> bool
 // all.
 pub fn check_lengths(g: &[f32], h: &[f32], g_dot: &[f32], h_dot: &[f32]) -> Verdict
     ensures answer { result ≡ lengths_verdict g.now h.now g_dot.now h_dot.now }
-    ensures kept { (g.now ≡ g.now) × (h.now ≡ h.now) × (g_dot.now ≡ g_dot.now) × (h_dot.now ≡ h_dot.now) }
+    ensures kept { (g.exit.now ≡ g.entry.now) × (h.exit.now ≡ h.entry.now) × (g_dot.exit.now ≡ g_dot.entry.now) × (h_dot.exit.now ≡ h_dot.entry.now) }
 {
     if are_alike(g, h, g_dot, h_dot) {
         if is_whole(g) {
@@ -128,7 +128,7 @@ pub fn check_lengths(g: &[f32], h: &[f32], g_dot: &[f32], h_dot: &[f32]) -> Verd
 // Each of the four is 90 long: what the readers and the writer of the WMM's sets ask.
 pub fn lists_long(g: &[f32], h: &[f32], g_dot: &[f32], h_dot: &[f32]) -> bool
     ensures answer { result ≡ long g.now h.now g_dot.now h_dot.now }
-    ensures kept { (g.now ≡ g.now) × (h.now ≡ h.now) × (g_dot.now ≡ g_dot.now) × (h_dot.now ≡ h_dot.now) }
+    ensures kept { (g.exit.now ≡ g.entry.now) × (h.exit.now ≡ h.entry.now) × (g_dot.exit.now ≡ g_dot.entry.now) × (h_dot.exit.now ≡ h_dot.entry.now) }
 {
     if g.len() != N_COEFF {
         return false;
@@ -164,7 +164,7 @@ fn search_caps(k: u8, cap: f32, g: &[f32], h: &[f32], third: &[f32], fourth: &[f
 // `check_lists`, which has no other caller, so that the compiler puts them into it.
 pub fn check_caps(g: &[f32], h: &[f32], g_dot: &[f32], h_dot: &[f32]) -> Verdict
     ensures answer { result ≡ caps_verdict g.now h.now g_dot.now h_dot.now }
-    ensures kept { (g.now ≡ g.now) × (h.now ≡ h.now) × (g_dot.now ≡ g_dot.now) × (h_dot.now ≡ h_dot.now) }
+    ensures kept { (g.exit.now ≡ g.entry.now) × (h.exit.now ≡ h.entry.now) × (g_dot.exit.now ≡ g_dot.entry.now) × (h_dot.exit.now ≡ h_dot.entry.now) }
 {
     if lists_within(RATE_CAP, g, h, g_dot, h_dot) {
         return Verdict::Accepted;
@@ -174,7 +174,7 @@ pub fn check_caps(g: &[f32], h: &[f32], g_dot: &[f32], h_dot: &[f32]) -> Verdict
 
 pub fn check_lists(g: &[f32], h: &[f32], g_dot: &[f32], h_dot: &[f32]) -> Verdict
     ensures answer { result ≡ lists_verdict g.now h.now g_dot.now h_dot.now }
-    ensures kept { (g.now ≡ g.now) × (h.now ≡ h.now) × (g_dot.now ≡ g_dot.now) × (h_dot.now ≡ h_dot.now) }
+    ensures kept { (g.exit.now ≡ g.entry.now) × (h.exit.now ≡ h.entry.now) × (g_dot.exit.now ≡ g_dot.entry.now) × (h_dot.exit.now ≡ h_dot.entry.now) }
 {
     if let Verdict::Refused(k) = check_lengths(g, h, g_dot, h_dot) {
         return Verdict::Refused(k);

@@ -15,7 +15,7 @@ const FREE: usize = 44;
 // 6, 23, then 7, of g and h of the first set and of the second.
 pub fn check_pair(g: &[f32], h: &[f32], second_g: &[f32], second_h: &[f32]) -> Verdict
     ensures answer { result ≡ pair_verdict g.now h.now second_g.now second_h.now }
-    ensures kept { (g.now ≡ g.now) × (h.now ≡ h.now) × (second_g.now ≡ second_g.now) × (second_h.now ≡ second_h.now) }
+    ensures kept { (g.exit.now ≡ g.entry.now) × (h.exit.now ≡ h.entry.now) × (second_g.exit.now ≡ second_g.entry.now) × (second_h.exit.now ≡ second_h.entry.now) }
 {
     if let Verdict::Refused(k) = check_lengths(g, h, second_g, second_h) {
         return Verdict::Refused(k);
@@ -43,7 +43,7 @@ fn is_still(s: &[f32]) -> bool
 // 6, 23, 22, then 7, of the four lists of a set.
 pub fn check_forecast(g: &[f32], h: &[f32], g_dot: &[f32], h_dot: &[f32]) -> Verdict
     ensures answer { result ≡ forecast_verdict g.now h.now g_dot.now h_dot.now }
-    ensures kept { (g.now ≡ g.now) × (h.now ≡ h.now) × (g_dot.now ≡ g_dot.now) × (h_dot.now ≡ h_dot.now) }
+    ensures kept { (g.exit.now ≡ g.entry.now) × (h.exit.now ≡ h.entry.now) × (g_dot.exit.now ≡ g_dot.entry.now) × (h_dot.exit.now ≡ h_dot.entry.now) }
 {
     if let Verdict::Refused(k) = check_lengths(g, h, g_dot, h_dot) {
         return Verdict::Refused(k);

@@ -83,7 +83,7 @@ fn no_record() -> ErrorModelAnswer
 // hand, so it hands each record by value to a function that is none.
 pub fn error_model_listed(records: &[ErrorRecord], epoch_year: i32) -> ErrorModelAnswer
     ensures result_value { error_said result ≡ listed_errors records.now epoch_year }
-    ensures kept { records.now ≡ records.now }
+    ensures kept { records.exit.now ≡ records.entry.now }
 {
     let mut i: usize = 0;
     while i < records.len() {

@@ -127,7 +127,7 @@ pub fn rates(
     ensures answer { said result ≡ rates_says (asked height latitude.sin latitude.cos longitude.sin longitude.cos epoch_year g.now h.now g_dot.now h_dot.now) day.year day.day_of_year }
     ensures distance { (v : YearlyRates) → result ≡ RatesAnswer.Rates v → RatesClose (asked height latitude.sin latitude.cos longitude.sin longitude.cos epoch_year g.now h.now g_dot.now h_dot.now) v }
     ensures finite { (v : YearlyRates) → result ≡ RatesAnswer.Rates v → AllFinite v }
-    ensures kept { (g.now ≡ g.now) × (h.now ≡ h.now) × (g_dot.now ≡ g_dot.now) × (h_dot.now ≡ h_dot.now) }
+    ensures kept { (g.exit.now ≡ g.entry.now) × (h.exit.now ≡ h.entry.now) × (g_dot.exit.now ≡ g_dot.entry.now) × (h_dot.exit.now ≡ h_dot.entry.now) }
 {
     match field::field(
         height, latitude, longitude, day, epoch_year, g, h, g_dot, h_dot,

@@ -31,7 +31,7 @@ pub fn igrf_rates(
     ensures answer { said result ≡ igrf_rates_says (profile (asked height latitude.sin latitude.cos longitude.sin longitude.cos epoch_year g.now h.now g_dot.now h_dot.now) second_epoch_year second_g.now second_h.now) day.year day.day_of_year }
     ensures distance { (v : YearlyRates) → result ≡ RatesAnswer.Rates v → RateClose (profile (asked height latitude.sin latitude.cos longitude.sin longitude.cos epoch_year g.now h.now g_dot.now h_dot.now) second_epoch_year second_g.now second_h.now) (early day.year) v.x v.y v.z }
     ensures finite { (v : YearlyRates) → result ≡ RatesAnswer.Rates v → AllFinite v }
-    ensures kept { (g.now ≡ g.now) × (h.now ≡ h.now) × (g_dot.now ≡ g_dot.now) × (h_dot.now ≡ h_dot.now) × (second_g.now ≡ second_g.now) × (second_h.now ≡ second_h.now) }
+    ensures kept { (g.exit.now ≡ g.entry.now) × (h.exit.now ≡ h.entry.now) × (g_dot.exit.now ≡ g_dot.entry.now) × (h_dot.exit.now ≡ h_dot.entry.now) × (second_g.exit.now ≡ second_g.entry.now) × (second_h.exit.now ≡ second_h.entry.now) }
 {
     match igrf::igrf(
         height,

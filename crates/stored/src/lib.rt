@@ -29,7 +29,7 @@ pub fn read(
 ) -> ReadAnswer
     ensures answer { left (said result) (lists_of g.new h.new g_dot.new h_dot.new)
         ≡ read_of bytes.now (lists_of g.old h.old g_dot.old h_dot.old) }
-    ensures kept { bytes.now ≡ bytes.now }
+    ensures kept { bytes.exit.now ≡ bytes.entry.now }
 {
     if !lists::lists_long(g, h, g_dot, h_dot) {
         return ReadAnswer::Refused(Refusal::Length);
@@ -49,7 +49,7 @@ pub fn read_either(
 ) -> ReadAnswer
     ensures answer { left (said result) (lists_of g.new h.new g_dot.new h_dot.new)
         ≡ read_either_of bytes.now (lists_of g.old h.old g_dot.old h_dot.old) }
-    ensures kept { bytes.now ≡ bytes.now }
+    ensures kept { bytes.exit.now ≡ bytes.entry.now }
 {
     if let Verdict::Refused(k) = lists::check_lengths(g, h, g_dot, h_dot) {
         return ReadAnswer::Refused(k);
@@ -173,7 +173,7 @@ pub fn write(
     bytes: &mut [u8],
 ) -> Verdict
     ensures answer { written result bytes.new ≡ write_of epoch_year (lists_of g.now h.now g_dot.now h_dot.now) bytes.old }
-    ensures kept { (g.now ≡ g.now) × (h.now ≡ h.now) × (g_dot.now ≡ g_dot.now) × (h_dot.now ≡ h_dot.now) }
+    ensures kept { (g.exit.now ≡ g.entry.now) × (h.exit.now ≡ h.entry.now) × (g_dot.exit.now ≡ g_dot.entry.now) × (h_dot.exit.now ≡ h_dot.entry.now) }
 {
     if !lists::lists_long(g, h, g_dot, h_dot) {
         return Verdict::Refused(Refusal::Length);
@@ -192,7 +192,7 @@ pub fn write_either(
     bytes: &mut [u8],
 ) -> Verdict
     ensures answer { written result bytes.new ≡ write_either_of epoch_year (lists_of g.now h.now g_dot.now h_dot.now) bytes.old }
-    ensures kept { (g.now ≡ g.now) × (h.now ≡ h.now) × (g_dot.now ≡ g_dot.now) × (h_dot.now ≡ h_dot.now) }
+    ensures kept { (g.exit.now ≡ g.entry.now) × (h.exit.now ≡ h.entry.now) × (g_dot.exit.now ≡ g_dot.entry.now) × (h_dot.exit.now ≡ h_dot.entry.now) }
 {
     if let Verdict::Refused(k) = lists::check_lengths(g, h, g_dot, h_dot) {
         return Verdict::Refused(k);

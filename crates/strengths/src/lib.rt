@@ -200,7 +200,7 @@ impl GeomagneticField {
         epoch_year: i32,
     ) -> StrengthAnswer
         ensures result_value { strength_said result ≡ listed_uncertainty self records.now epoch_year }
-        ensures kept { records.now ≡ records.now }
+        ensures kept { records.exit.now ≡ records.entry.now }
     {
         let figures = models::error_model_listed(records, epoch_year);
         self.uncertainty_with(figures)

@@ -113,7 +113,7 @@ pub fn sum(
 ) -> SumAnswer
     ensures answer { said result ≡ sum_says (lent colatitude.cos colatitude.sin longitude.sin longitude.cos ratio offset g.now h.now g_dot.now h_dot.now) }
     ensures distance { (v : Xyz) → result ≡ SumAnswer.Sum v → SumClose (lent colatitude.cos colatitude.sin longitude.sin longitude.cos ratio offset g.now h.now g_dot.now h_dot.now) v }
-    ensures kept { (g.now ≡ g.now) × (h.now ≡ h.now) × (g_dot.now ≡ g_dot.now) × (h_dot.now ≡ h_dot.now) }
+    ensures kept { (g.exit.now ≡ g.entry.now) × (h.exit.now ≡ h.entry.now) × (g_dot.exit.now ≡ g_dot.entry.now) × (h_dot.exit.now ≡ h_dot.entry.now) }
 {
     sum_by(
         colatitude, longitude, ratio, offset, g, h, g_dot, h_dot, true,
@@ -132,7 +132,7 @@ pub fn sum_uncapped(
     h_dot: &[f32],
 ) -> SumAnswer
     ensures answer { said result ≡ uncapped_says (lent colatitude.cos colatitude.sin longitude.sin longitude.cos ratio offset g.now h.now g_dot.now h_dot.now) }
-    ensures kept { (g.now ≡ g.now) × (h.now ≡ h.now) × (g_dot.now ≡ g_dot.now) × (h_dot.now ≡ h_dot.now) }
+    ensures kept { (g.exit.now ≡ g.entry.now) × (h.exit.now ≡ h.entry.now) × (g_dot.exit.now ≡ g_dot.entry.now) × (h_dot.exit.now ≡ h_dot.entry.now) }
 {
     sum_by(
         colatitude, longitude, ratio, offset, g, h, g_dot, h_dot, false,

@@ -53,7 +53,7 @@ pub enum WholeAnswer {
 
 pub fn first_line(s: &[u8]) -> FirstLine
     ensures answer { result ≡ first_line s.now }
-    ensures kept { s.now ≡ s.now }
+    ensures kept { s.exit.now ≡ s.entry.now }
 {
     let end = spans::line_end(s);
     FirstLine {
@@ -74,7 +74,7 @@ pub fn is_blank(c: u8) -> bool
 
 pub fn first_word(s: &[u8]) -> FirstWord
     ensures answer { result ≡ first_word s.now }
-    ensures kept { s.now ≡ s.now }
+    ensures kept { s.exit.now ≡ s.entry.now }
 {
     let start = spans::blanks(s);
     FirstWord {
@@ -87,7 +87,7 @@ pub fn first_word(s: &[u8]) -> FirstWord
 // digits at most.
 pub fn read_decimal(s: &[u8]) -> DecimalAnswer
     ensures answer { decimal_said result ≡ decimal_of s.now }
-    ensures kept { s.now ≡ s.now }
+    ensures kept { s.exit.now ≡ s.entry.now }
 {
     decimals::read_decimal(s)
 }
@@ -95,7 +95,7 @@ pub fn read_decimal(s: &[u8]) -> DecimalAnswer
 // The f32 nearest to it, ties to even.
 pub fn read_number(s: &[u8]) -> NumberAnswer
     ensures answer { number_said result ≡ number_of s.now }
-    ensures kept { s.now ≡ s.now }
+    ensures kept { s.exit.now ≡ s.entry.now }
 {
     match read_decimal(s) {
         DecimalAnswer::Decimal(d) => NumberAnswer::Number(nearest::nearest(d)),
@@ -106,7 +106,7 @@ pub fn read_number(s: &[u8]) -> NumberAnswer
 // A number whose digits after the point are all 0.
 pub fn read_whole(s: &[u8]) -> WholeAnswer
     ensures answer { whole_said result ≡ whole_of s.now }
-    ensures kept { s.now ≡ s.now }
+    ensures kept { s.exit.now ≡ s.entry.now }
 {
     match read_decimal(s) {
         DecimalAnswer::Decimal(d) => nearest::whole(d),

@@ -53,7 +53,7 @@ use Rattle.models.proofs.error_model_listed.Symbol as search_def
 use Rattle.models.proofs.error_model_listed.Symbol.{name as #search}
 use Rattle.models.proofs.error_model_listed.Met as search_thm
 use Rattle.strengths.specs.Strengths.{bare, uncertainty_with, listed_uncertainty}
-use Rattle.ffi.specs.Told.{number_of, result, itself}
+use Rattle.ffi.specs.Told.{number_of, result_place, itself}
 use Rattle.ffi.specs.contracts.listed.told_uncertainty as told
 use Rattle.ffi.proofs.listed.told_uncertainty.Symbol as told_def
 use Rattle.ffi.proofs.listed.told_uncertainty.Symbol.{name as #told}
@@ -89,7 +89,7 @@ module _ {M : Type 1} {𝓤 : Ura M} (𝓛 : Logic 𝓤) (mem : Memory → SProp
 
   -- what is said of the number and of the places, where a call says p
   abbrev Says : Paper Float → ℕ → f32.Denot → Type 0
-  Says p r place' = (r ≡ number_of p) × (place' ≡ result itself place.now p)
+  Says p r place' = (r ≡ number_of p) × (place' ≡ result_place itself place.now p)
 
   abbrev answer : Paper WmmErrorModel → Paper Float
   answer figures = uncertainty_with figures (bare x y z)

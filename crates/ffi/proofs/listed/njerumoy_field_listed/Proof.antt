@@ -56,7 +56,7 @@ use Rattle.models.proofs.error_model_listed.Met as search_thm
 use Rattle.strengths.specs.declared.GeomagneticField.{GeomagneticField}
 use Rattle.field.specs.Field.{asked, field_with, listed_field}
 use Rattle.field.proofs.Answers.{by_8}
-use Rattle.ffi.specs.Told.{number_of, result, field_floats, error_floats, entry_place, years_place}
+use Rattle.ffi.specs.Told.{number_of, result_place, field_floats, error_floats, entry_place, years_place}
 use Rattle.ffi.specs.contracts.listed.told_field as told
 use Rattle.ffi.proofs.listed.told_field.Symbol as told_def
 use Rattle.ffi.proofs.listed.told_field.Symbol.{name as #told}
@@ -92,7 +92,7 @@ module _ {M : Type 1} {𝓤 : Ura M} (𝓛 : Logic 𝓤) (mem : Memory → SProp
 
   -- what is said of the number and of the places, where a call says p
   abbrev Says : Paper GeomagneticField → ℕ → (Array f32 tt 3).Denot → (Array f32 tt 8).Denot → (Array usize tt 2).Denot → (Array i32 tt 2).Denot → Type 0
-  Says p r xyz' errors' entry' years' = (r ≡ number_of p) × (xyz' ≡ result field_floats xyz.now p) × (errors' ≡ result error_floats errors.now p) × (entry' ≡ entry_place entry.now p) × (years' ≡ years_place years.now p)
+  Says p r xyz' errors' entry' years' = (r ≡ number_of p) × (xyz' ≡ result_place field_floats xyz.now p) × (errors' ≡ result_place error_floats errors.now p) × (entry' ≡ entry_place entry.now p) × (years' ≡ years_place years.now p)
 
   abbrev answer : Paper WmmErrorModel → Paper GeomagneticField
   answer figures = field_with figures (asked height sp cp sl cl set-year g.now h.now gd.now hd.now) year day

@@ -5,8 +5,8 @@ use Rattle.synthesis.specs.Sum.{said}
 use Rattle.ffi.specs.Told.{xyz_floats}
 use Rattle.ffi.proofs.Refused.{number_refused, kept_refused, entry_refused}
 use Rattle.ffi.proofs.Answered.{number_answered, written, entry_answered}
-use Rattle.ffi.proofs.sums.njerumoy_sum.Statement.{statement}
-use Rattle.ffi.proofs.sums.njerumoy_sum.Tie as tie
+use Rattle.ffi.proofs.sum.njerumoy_sum.Statement.{statement}
+use Rattle.ffi.proofs.sum.njerumoy_sum.Tie as tie
 
 sum-requires : tie.Need-sum-requires
 sum-requires c κs = search rules

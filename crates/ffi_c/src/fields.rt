@@ -1,0 +1,188 @@
+// Field, Field in degrees, and Allowance, of Field and of the IGRF profile.
+ghost use Rattle.std.specs.Prelude.{◌≡◌};
+ghost use Rattle.field.specs.Field.{asked, field_says};
+ghost use Rattle.degrees.specs.Degrees.{place, degrees_says};
+ghost use Rattle.models.specs.Epochs.{epoch_offset};
+ghost use Rattle.igrf.specs.Igrf.{early, profile};
+ghost use Rattle.allowance.specs.declared.Allowances.{Allowances};
+ghost use Rattle.allowance.specs.Allowance.{allowance_says};
+ghost use Rattle.allowance.specs.Profile.{IgrfCovered, igrf_allowance_says};
+ghost use Rattle.ffi.specs.Told.{number_of, result_place, entry_place, years_place, field_floats, error_floats, allowance_floats};
+
+#[unsafe(no_mangle)]
+pub extern "C" fn njerumoy_field(
+    height: f32,
+    sin_phi: f32,
+    cos_phi: f32,
+    sin_lambda: f32,
+    cos_lambda: f32,
+    year: i32,
+    day_of_year: i32,
+    epoch_year: i32,
+    g: &[f32],
+    h: &[f32],
+    g_dot: &[f32],
+    h_dot: &[f32],
+    xyz: &mut [f32; 3],
+    errors: &mut [f32; 8],
+    entry: &mut [usize; 2],
+    years: &mut [i32; 2],
+) -> u32
+    ensures answer { let p = field_says (asked height sin_phi cos_phi sin_lambda cos_lambda epoch_year g.now h.now g_dot.now h_dot.now) year day_of_year in
+        (result ≡ number_of p) × (xyz.new ≡ result_place field_floats xyz.old p) × (errors.new ≡ result_place error_floats errors.old p)
+        × (entry.new ≡ entry_place entry.old p) × (years.new ≡ years_place years.old p) }
+    ensures kept { (g.exit.now ≡ g.entry.now) × (h.exit.now ≡ h.entry.now) × (g_dot.exit.now ≡ g_dot.entry.now) × (h_dot.exit.now ≡ h_dot.entry.now) }
+{
+    ffi::njerumoy_field(
+        height,
+        sin_phi,
+        cos_phi,
+        sin_lambda,
+        cos_lambda,
+        year,
+        day_of_year,
+        epoch_year,
+        g,
+        h,
+        g_dot,
+        h_dot,
+        xyz,
+        errors,
+        entry,
+        years,
+    )
+}
+
+#[unsafe(no_mangle)]
+pub extern "C" fn njerumoy_field_in_degrees(
+    height: f32,
+    latitude_deg: f32,
+    longitude_deg: f32,
+    year: i32,
+    day_of_year: i32,
+    epoch_year: i32,
+    g: &[f32],
+    h: &[f32],
+    g_dot: &[f32],
+    h_dot: &[f32],
+    xyz: &mut [f32; 3],
+    errors: &mut [f32; 8],
+    entry: &mut [usize; 2],
+    years: &mut [i32; 2],
+) -> u32
+    ensures answer { let p = degrees_says (place height latitude_deg longitude_deg epoch_year g.now h.now g_dot.now h_dot.now) year day_of_year in
+        (result ≡ number_of p) × (xyz.new ≡ result_place field_floats xyz.old p) × (errors.new ≡ result_place error_floats errors.old p)
+        × (entry.new ≡ entry_place entry.old p) × (years.new ≡ years_place years.old p) }
+    ensures kept { (g.exit.now ≡ g.entry.now) × (h.exit.now ≡ h.entry.now) × (g_dot.exit.now ≡ g_dot.entry.now) × (h_dot.exit.now ≡ h_dot.entry.now) }
+{
+    ffi::njerumoy_field_in_degrees(
+        height,
+        latitude_deg,
+        longitude_deg,
+        year,
+        day_of_year,
+        epoch_year,
+        g,
+        h,
+        g_dot,
+        h_dot,
+        xyz,
+        errors,
+        entry,
+        years,
+    )
+}
+
+#[unsafe(no_mangle)]
+pub extern "C" fn njerumoy_allowance(
+    height: f32,
+    sin_phi: f32,
+    cos_phi: f32,
+    sin_lambda: f32,
+    cos_lambda: f32,
+    year: i32,
+    day_of_year: i32,
+    epoch_year: i32,
+    g: &[f32],
+    h: &[f32],
+    g_dot: &[f32],
+    h_dot: &[f32],
+    allowances: &mut [f32; 3],
+    entry: &mut [usize; 2],
+    years: &mut [i32; 2],
+) -> u32
+    ensures answer { let p = allowance_says (asked height sin_phi cos_phi sin_lambda cos_lambda epoch_year g.now h.now g_dot.now h_dot.now) year day_of_year in
+        (result ≡ number_of p) × (allowances.new ≡ result_place allowance_floats allowances.old p)
+        × (entry.new ≡ entry_place entry.old p) × (years.new ≡ years_place years.old p) }
+    ensures kept { (g.exit.now ≡ g.entry.now) × (h.exit.now ≡ h.entry.now) × (g_dot.exit.now ≡ g_dot.entry.now) × (h_dot.exit.now ≡ h_dot.entry.now) }
+{
+    ffi::njerumoy_allowance(
+        height,
+        sin_phi,
+        cos_phi,
+        sin_lambda,
+        cos_lambda,
+        year,
+        day_of_year,
+        epoch_year,
+        g,
+        h,
+        g_dot,
+        h_dot,
+        allowances,
+        entry,
+        years,
+    )
+}
+
+// In the IGRF profile. `covers` is of what is written where 0 is returned: each number is at least demand
+// 3's allowance, and at most 1.01 times as much.
+#[unsafe(no_mangle)]
+pub extern "C" fn njerumoy_igrf_allowance(
+    height: f32,
+    sin_phi: f32,
+    cos_phi: f32,
+    sin_lambda: f32,
+    cos_lambda: f32,
+    year: i32,
+    day_of_year: i32,
+    epoch_year: i32,
+    g: &[f32],
+    h: &[f32],
+    g_dot: &[f32],
+    h_dot: &[f32],
+    second_epoch_year: i32,
+    second_g: &[f32],
+    second_h: &[f32],
+    allowances: &mut [f32; 3],
+    entry: &mut [usize; 2],
+    years: &mut [i32; 2],
+) -> u32
+    ensures answer { let p = igrf_allowance_says (profile (asked height sin_phi cos_phi sin_lambda cos_lambda epoch_year g.now h.now g_dot.now h_dot.now) second_epoch_year second_g.now second_h.now) year day_of_year in
+        (result ≡ number_of p) × (allowances.new ≡ result_place allowance_floats allowances.old p)
+        × (entry.new ≡ entry_place entry.old p) × (years.new ≡ years_place years.old p) }
+    ensures covers { result ≡ 0 → (v : Allowances) × (allowances.new ≡ allowance_floats v)
+        × IgrfCovered (profile (asked height sin_phi cos_phi sin_lambda cos_lambda epoch_year g.now h.now g_dot.now h_dot.now) second_epoch_year second_g.now second_h.now) (early year) (epoch_offset year day_of_year) v }
+    ensures kept { (g.exit.now ≡ g.entry.now) × (h.exit.now ≡ h.entry.now) × (g_dot.exit.now ≡ g_dot.entry.now) × (h_dot.exit.now ≡ h_dot.entry.now) × (second_g.exit.now ≡ second_g.entry.now) × (second_h.exit.now ≡ second_h.entry.now) }
+{
+    ffi::njerumoy_igrf_allowance(
+        height,
+        sin_phi,
+        cos_phi,
+        sin_lambda,
+        cos_lambda,
+        year,
+        day_of_year,
+        epoch_year,
+        g,
+        h,
+        g_dot,
+        h_dot,
+        second_epoch_year,
+        second_g,
+        second_h,
+        allowances,
+        entry,
+        years,
+    )
+}
