@@ -19,7 +19,7 @@ ninety_of c =
     each_long a.g.now a.h.now a.g_dot.now a.h_dot.now (sym c.lists_long.ensures.0 ∙ not-false _ c.if-not-lists_long.false-raw)
 
 few : (c : tie.Joined-answer) → c.match-answer.count ≤ N_COEFF
-few c = ⊎_elim (λ w. let e = w.2 in omega (arith, e)) (λ w. let e = w.2 in omega (arith, e)) c.match-answer.branch-raw
+few c = ⊎_elim (λ w. let e = w.count-is in omega (arith, e)) (λ w. let e = w.count-is in omega (arith, e)) c.match-answer.branch-raw
 
 lists_long-requires : tie.Need-lists_long-requires
 lists_long-requires c κs = search rules
@@ -89,8 +89,8 @@ returns-2 c =
     let f = c.checked-answer.ensures.1 in (
       copied (said r) _ _ _ _ _ _ _ _ c.put.ensures c.put-2.ensures c.put-3.ensures c.put-4.ensures
           ∙ ⊎_elim
-          (λ t. all_put s held _ long c.if-not-lists_long.false-raw l r f c.match-answer.count (ninety_of c.before.before.before.before.before.before.before.before.before.before.before.before.before.before.before.before.before.before.before.before.before.before.before.before.before.before) c.checked-answer.ensures.0 t.1.given.0.0 t.1.given.1 t.2)
-          (λ t. nothing_put s held _ long c.if-not-lists_long.false-raw l r f c.match-answer.count t.1.given.0.0 t.1.given.1 t.2)
+          (λ t. all_put s held _ long c.if-not-lists_long.false-raw l r f c.match-answer.count (ninety_of c.before.before.before.before.before.before.before.before.before.before.before.before.before.before.before.before.before.before.before.before.before.before.before.before.before.before) c.checked-answer.ensures.0 t.in-Epoch.field-0 t.in-Epoch.is t.count-is)
+          (λ t. nothing_put s held _ long c.if-not-lists_long.false-raw l r f c.match-answer.count t.in_default.field-0 t.in_default.is t.count-is)
           c.match-answer.branch-raw,
       refl,
     )

@@ -11,28 +11,27 @@ use borrow.Author.Rules.{rules}
 use Rattle.field.proofs.components.Statement.{statement}
 use Rattle.field.proofs.components.Tie as tie
 
-check-place-requires : tie.Need-check-place-requires
-check-place-requires c κs = search rules
+check_place-requires : tie.Need-check_place-requires
+check_place-requires c κs = search rules
 
-enum-known-k : tie.Need-enum-known-k
-enum-known-k c = search rules
+enum_known-k : tie.Need-enum_known-k
+enum_known-k c = search rules
 
-returns : tie.Need-returns
+returns : tie.Need-returns-in-Refused
 returns c =
-    let p = c.before.before.before in
-    place_refused _ _ _ _ (sym p.check_place.ensures ∙ c.before.k.given.1)
+    place_refused _ _ _ _ (sym c.check_place.ensures ∙ c.in-Refused.is)
 
-enum_told : tie.Need-enum-told
+enum_told : tie.Need-enum_told-1
 enum_told c = search rules
 
 epoch-requires : tie.Need-epoch-requires
 epoch-requires c κs = search rules
 
-enum-known-k-2 : tie.Need-enum-known-k-2
-enum-known-k-2 c = search rules
+enum_known-k-2 : tie.Need-enum_known-k-in-Refused-epoch
+enum_known-k-2 c = search rules
 
-enum-known-e : tie.Need-enum-known-e
-enum-known-e c = search rules
+enum_known-e : tie.Need-enum_known-e
+enum_known-e c = search rules
 
 -- what is asked, and the day as Epoch is given it
 abbrev asks : tie.Start → Asked
@@ -40,54 +39,33 @@ asks s =
     let a = s.args in
     asked a.height a.latitude.sin a.latitude.cos a.longitude.sin a.longitude.cos a.epoch_year a.g.now a.h.now a.g_dot.now a.h_dot.now
 
-day_said : (c : tie.After-epoch) → said c.epoch.result ≡ epoch_says c.before.before.before.before.before.before.before.before.before.before.args.day.year c.before.before.before.before.before.before.before.before.before.before.args.day.day_of_year
+day_said : (c : tie.After-epoch) → said c.epoch.result ≡ epoch_says c.args.day.year c.args.day.day_of_year
 day_said c =
-    let d = c.before.before.before.before.before.before.before.before.before.before.args.day in
-    let g = c.before.struct-told2.given in
+    let d = c.args.day in
+    let g = c.struct_told-2-1.given in
     rw (to_z-of_z w32 d.year (record { sfits = g.0.1 }), to_z-of_z w32 d.day_of_year (record { sfits = g.1.0.1 })) at c.epoch.ensures
 
-abbrev starts : tie.After-enum-told → Asked
-starts c = asks c.before.before.before.before.before.before.before
+abbrev starts : tie.In_default → Asked
+starts c = asks c.before.before.before.before.before.before
 
-passed_place : (c : tie.After-enum-told) → of_place (starts c) ≡ Verdict.Accepted
-passed_place c = sym c.before.before.check_place.ensures ∙ c.enum_told.given.1
+passed_place : (c : tie.In_default) → of_place (starts c) ≡ Verdict.Accepted
+passed_place c = sym c.check_place.ensures ∙ c.in_default.is
 
-components-at-requires : tie.Need-components-at-requires
-components-at-requires c κs =
-    let d = c.before in
-    let q = d.before.before in
-    let o = q.before.before.before in
-    let s = o.before.before.before.before.before.before.before in
-    let y = to_z-of_z w32 s.args.epoch_year s.ranges.epoch_year in
-    rw y (accepted_at (asks s) _ _ (passed_place o) _ (sym (day_said q) ∙ ap said d.e.given.1))
+components_at-requires : tie.Need-components_at-requires
+components_at-requires c κs =
+    let y = to_z-of_z w32 c.args.epoch_year c.ranges.epoch_year in
+    rw y (accepted_at (asks c.before.before.before.before.before.before.before.before.before.before) _ _ (passed_place c.before.before.before.before) _ (sym (day_said c.before) ∙ ap said c.in-Epoch.is))
 
-returns-2 : tie.Need-returns-2
+returns-2 : tie.Need-returns-in-Refused-epoch
 returns-2 c =
-    let q = c.before.before.before in
-    let o = q.before.before.before in
-    let s = o.before.before.before.before.before.before.before in
-    day_refused (asks s) _ _ (passed_place o) c.before.k2.given.0.0 (sym (ap said c.before.k2.given.1) ∙ day_said q)
+    day_refused (asks c.before.before.before.before.before.before.before.before.before.before) _ _ (passed_place c.before.before.before.before) c.in-Refused-epoch.k (sym (ap said c.in-Refused-epoch.is) ∙ day_said c.before)
 
-returns-3 : tie.Need-returns-3
+returns-3 : tie.Need-returns-in-Epoch
 returns-3 c =
-    let d = c.before.before in
-    let q = d.before.before in
-    let o = q.before.before.before in
-    let s = o.before.before.before.before.before.before.before in
-    let y = to_z-of_z w32 s.args.epoch_year s.ranges.epoch_year in
-    day_answered (asks s) _ _ (passed_place o) _ (sym (ap said d.e.given.1) ∙ day_said q) _ (rw y at c.components-at.ensures)
+    let y = to_z-of_z w32 c.args.epoch_year c.ranges.epoch_year in
+    day_answered (asks c.before.before.before.before.before.before.before.before.before.before.before) _ _ (passed_place c.before.before.before.before.before) _ (sym (ap said c.in-Epoch.is) ∙ day_said c.before.before) _ (rw y at c.components_at.ensures)
 
 pub components_spec : {M : Type 1} → statement M
 components_spec =
     tie.close
-    (tie.spec
-    check-place-requires
-    enum-known-k
-    returns
-    enum_told
-    epoch-requires
-    enum-known-k-2
-    enum-known-e
-    components-at-requires
-    returns-2
-    returns-3)
+    (tie.spec check_place-requires enum_known-k returns enum_told epoch-requires enum_known-k-2 enum_known-e components_at-requires returns-2 returns-3)

@@ -12,11 +12,11 @@ use Rattle.field.proofs.field.Tie as tie
 components-requires : tie.Need-components-requires
 components-requires c κs = search rules
 
-error-model-by-epoch-year-requires : tie.Need-error-model-by-epoch-year-requires
-error-model-by-epoch-year-requires c κs = search rules
+error_model_by_epoch_year-requires : tie.Need-error_model_by_epoch_year-requires
+error_model_by_epoch_year-requires c κs = search rules
 
-with-figures-requires : tie.Need-with-figures-requires
-with-figures-requires c κs = search rules
+with_figures-requires : tie.Need-with_figures-requires
+with_figures-requires c κs = search rules
 
 abbrev asks : tie.Start → Asked
 asks s =
@@ -26,16 +26,13 @@ asks s =
 returns : tie.Need-returns
 unfolding field_says field_with
 returns c =
-    let m = c.before in
-    let k = m.before in
-    let s = k.before.before.before.before.before in
-    let d = s.args.day in
-    let y = to_z-of_z w32 s.args.epoch_year s.ranges.epoch_year in
-    let f : error_said m.error_model_by_epoch_year.result ≡ error_says s.args.epoch_year = m.error_model_by_epoch_year.ensures ∙ ap error_says y in
-    let p : components_said k.components.result ≡ components_says (asks s) d.year d.day_of_year = rw y at k.components.ensures in
-    let w : said c.with-figures.result ≡ field_with (error_says s.args.epoch_year) (asks s) d.year d.day_of_year = c.with-figures.ensures ∙ rw (p, f) in
-    let e = w ∙ by_8 error_says (asks s) d.year d.day_of_year in
-    (e, (field_close (asks s) d.year d.day_of_year _ e, (refl, refl, refl, refl)))
+    let d = c.args.day in
+    let y = to_z-of_z w32 c.args.epoch_year c.ranges.epoch_year in
+    let f : error_said c.error_model_by_epoch_year.result ≡ error_says c.args.epoch_year = c.error_model_by_epoch_year.ensures ∙ ap error_says y in
+    let p : components_said c.components.result ≡ components_says (asks c.before.before.before.before.before.before.before) d.year d.day_of_year = rw y at c.components.ensures in
+    let w : said c.with_figures.result ≡ field_with (error_says c.args.epoch_year) (asks c.before.before.before.before.before.before.before) d.year d.day_of_year = c.with_figures.ensures ∙ rw (p, f) in
+    let e = w ∙ by_8 error_says (asks c.before.before.before.before.before.before.before) d.year d.day_of_year in
+    (e, (field_close (asks c.before.before.before.before.before.before.before) d.year d.day_of_year _ e, (refl, refl, refl, refl)))
 
 pub field_spec : {M : Type 1} → statement M
-field_spec = tie.close (tie.spec components-requires error-model-by-epoch-year-requires with-figures-requires returns)
+field_spec = tie.close (tie.spec components-requires error_model_by_epoch_year-requires with_figures-requires returns)

@@ -13,15 +13,14 @@ use Rattle.field.proofs.field_with.Tie as tie
 components-requires : tie.Need-components-requires
 components-requires c κs = search rules
 
-with-figures-requires : tie.Need-with-figures-requires
-with-figures-requires c κs = search rules
+with_figures-requires : tie.Need-with_figures-requires
+with_figures-requires c κs = search rules
 
 returns : tie.Need-returns
 unfolding field_with
 returns c =
-    let s = c.before.before.before.before.before.before in
-    let y = to_z-of_z w32 s.args.epoch_year s.ranges.epoch_year in
-    (c.with-figures.ensures ∙ ap (λ (p : Paper Xyz). record_says p (error_said s.args.figures)) (rw y at c.before.components.ensures), (refl, refl, refl, refl))
+    let y = to_z-of_z w32 c.args.epoch_year c.ranges.epoch_year in
+    (c.with_figures.ensures ∙ ap (λ (p : Paper Xyz). record_says p (error_said c.args.figures)) (rw y at c.components.ensures), (refl, refl, refl, refl))
 
 pub field_with_spec : {M : Type 1} → statement M
-field_with_spec = tie.close (tie.spec components-requires with-figures-requires returns)
+field_with_spec = tie.close (tie.spec components-requires with_figures-requires returns)

@@ -5,15 +5,13 @@ use Rattle.field.proofs.Answers.{other_epoch, own_epoch}
 use Rattle.field.proofs.shown.Statement.{statement}
 use Rattle.field.proofs.shown.Tie as tie
 
-returns : tie.Need-returns
+returns : tie.Need-returns-then-of_set-of_day
 returns c =
-    let s = c.before in
-    rw (to_z-of_z w32 s.args.of_day s.ranges.of_day, to_z-of_z w32 s.args.of-set s.ranges.of-set) (other_epoch _ _ _ s.ranges.of-set s.ranges.of_day c.if1.true)
+    rw (to_z-of_z w32 c.args.of_day c.ranges.of_day, to_z-of_z w32 c.args.of_set c.ranges.of_set) (other_epoch _ _ _ c.ranges.of_set c.ranges.of_day c.if-of_set-of_day.true)
 
-returns-2 : tie.Need-returns-2
+returns-2 : tie.Need-returns
 returns-2 c =
-    let s = c.before in
-    own_epoch _ _ _ s.ranges.of-set s.ranges.of_day c.if1.false
+    own_epoch _ _ _ c.ranges.of_set c.ranges.of_day c.if-of_set-of_day.false
 
 pub shown_spec : {M : Type 1} → statement M
 shown_spec = tie.close (tie.spec returns returns-2)

@@ -190,5 +190,5 @@ field_listed_spec 𝓤 𝓛 𝓜 𝓡 =
     entered 𝓤 𝓛.H (triple_of 𝓛 listed.signature (listed.spec 𝓛 𝓜.mem 𝓡.run))
     (tables 𝓤 𝓛.H 𝓜 𝓡 code.env).C (tables 𝓤 𝓛.H 𝓜 𝓡 code.env).Λ #listed code.function (code.unfolded 𝓤 𝓛.H 𝓜 𝓡)
     (listed_meets 𝓛 𝓜.mem 𝓡.run (tables_of 𝓤 𝓛.H 𝓜 (tables 𝓤 𝓛.H 𝓜 𝓡 code.env))
-    (cited 𝓤 𝓛.H (Search 𝓛 𝓜.mem 𝓡.run) 𝓜 𝓡 code.env #search search_def.routine code.calls-models::error-model-listed (search_thm.met 𝓤 𝓛 𝓜 𝓡))
-    (cited 𝓤 𝓛.H (triple_of 𝓛 with.signature (with.spec 𝓛 𝓜.mem 𝓡.run)) 𝓜 𝓡 code.env #with with_def.routine code.calls-field::field-with (with_thm.met 𝓤 𝓛 𝓜 𝓡)))
+    (cited 𝓤 𝓛.H (Search 𝓛 𝓜.mem 𝓡.run) 𝓜 𝓡 code.env #search search_def.routine code.calls-models::error_model_listed (search_thm.met 𝓤 𝓛 𝓜 𝓡))
+    (cited 𝓤 𝓛.H (triple_of 𝓛 with.signature (with.spec 𝓛 𝓜.mem 𝓡.run)) 𝓜 𝓡 code.env #with with_def.routine code.calls-field::field_with (with_thm.met 𝓤 𝓛 𝓜 𝓡)))

@@ -33,7 +33,7 @@ returns-3 : tie.Need-returns-then-outside-3
 unfolding grid_says
 returns-3 c =
     let a = c.args in
-    simp (not-false (between (neg d90) d90 a.latitude_deg) (sym c.outside.ensures ∙ c.if-outside.false), not-false (between (neg d180) d180 a.longitude_deg) (sym c.outside-2.ensures ∙ c.if-outside-2.false), not-true (between (neg d180) d180 a.declination-deg) (sym c.outside-3.ensures ∙ c.if-outside-3.true))
+    simp (not-false (between (neg d90) d90 a.latitude_deg) (sym c.outside.ensures ∙ c.if-outside.false), not-false (between (neg d180) d180 a.longitude_deg) (sym c.outside-2.ensures ∙ c.if-outside-2.false), not-true (between (neg d180) d180 a.declination_deg) (sym c.outside-3.ensures ∙ c.if-outside-3.true))
 
 wrap_to_180-requires : tie.Need-wrap_to_180-requires
 wrap_to_180-requires c κs = search rules
@@ -42,7 +42,7 @@ returns-4 : tie.Need-returns-then-latitude_deg
 unfolding grid_says variation_of
 returns-4 c =
     let a = c.args in
-    simp (not-false (between (neg d90) d90 a.latitude_deg) (sym c.outside.ensures ∙ c.if-outside.false), not-false (between (neg d180) d180 a.longitude_deg) (sym c.outside-2.ensures ∙ c.if-outside-2.false), not-false (between (neg d180) d180 a.declination-deg) (sym c.outside-3.ensures ∙ c.if-outside-3.false), c.if-latitude_deg.true) (rw c.wrap_to_180.ensures)
+    simp (not-false (between (neg d90) d90 a.latitude_deg) (sym c.outside.ensures ∙ c.if-outside.false), not-false (between (neg d180) d180 a.longitude_deg) (sym c.outside-2.ensures ∙ c.if-outside-2.false), not-false (between (neg d180) d180 a.declination_deg) (sym c.outside-3.ensures ∙ c.if-outside-3.false), c.if-latitude_deg.true) (rw c.wrap_to_180.ensures)
 
 wrap_to_180-requires-2 : tie.Need-wrap_to_180-requires-then-latitude_deg-2
 wrap_to_180-requires-2 c κs = search rules
@@ -51,13 +51,13 @@ returns-5 : tie.Need-returns-then-latitude_deg-2
 unfolding grid_says variation_of
 returns-5 c =
     let a = c.args in
-    simp (not-false (between (neg d90) d90 a.latitude_deg) (sym c.outside.ensures ∙ c.if-outside.false), not-false (between (neg d180) d180 a.longitude_deg) (sym c.outside-2.ensures ∙ c.if-outside-2.false), not-false (between (neg d180) d180 a.declination-deg) (sym c.outside-3.ensures ∙ c.if-outside-3.false), c.if-latitude_deg.false, c.if-latitude_deg-2.true) (rw c.wrap_to_180-then-latitude_deg-2.ensures)
+    simp (not-false (between (neg d90) d90 a.latitude_deg) (sym c.outside.ensures ∙ c.if-outside.false), not-false (between (neg d180) d180 a.longitude_deg) (sym c.outside-2.ensures ∙ c.if-outside-2.false), not-false (between (neg d180) d180 a.declination_deg) (sym c.outside-3.ensures ∙ c.if-outside-3.false), c.if-latitude_deg.false, c.if-latitude_deg-2.true) (rw c.wrap_to_180-then-latitude_deg-2.ensures)
 
 returns-6 : tie.Need-returns
 unfolding grid_says variation_of
 returns-6 c =
     let a = c.args in
-    simp (not-false (between (neg d90) d90 a.latitude_deg) (sym c.outside.ensures ∙ c.if-outside.false), not-false (between (neg d180) d180 a.longitude_deg) (sym c.outside-2.ensures ∙ c.if-outside-2.false), not-false (between (neg d180) d180 a.declination-deg) (sym c.outside-3.ensures ∙ c.if-outside-3.false), c.if-latitude_deg.false, c.if-latitude_deg-2.false)
+    simp (not-false (between (neg d90) d90 a.latitude_deg) (sym c.outside.ensures ∙ c.if-outside.false), not-false (between (neg d180) d180 a.longitude_deg) (sym c.outside-2.ensures ∙ c.if-outside-2.false), not-false (between (neg d180) d180 a.declination_deg) (sym c.outside-3.ensures ∙ c.if-outside-3.false), c.if-latitude_deg.false, c.if-latitude_deg-2.false)
 
 pub grid_variation_spec : {M : Type 1} → statement M
 grid_variation_spec =

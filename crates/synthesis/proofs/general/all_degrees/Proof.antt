@@ -33,7 +33,7 @@ add_degrees-requires c κs = omega (arith, c.requires.1)
 returns : tie.Need-returns
 returns c = λ i ec es er G.
     c.add_degrees.ensures i er
-    (c.put_all_terms.ensures i (rw (c.divisors-ds.ensures, c.squares-sq.ensures, c.orders-os.ensures) G) (weighed i _ _ _ _ ec es c.Below-then.ensures c.below_then-sw.ensures) (started i _ _ _ ec es c.start_values-d.ensures) (fresh_start i _ _ _ ec es c.start_values-d.ensures) zeros_sized)
+    (c.put_all_terms.ensures i (rw (c.divisors-ds.ensures, c.squares-sq.ensures, c.orders-os.ensures) G) (weighed i _ _ _ _ ec es c.below_then-cw.ensures c.below_then-sw.ensures) (started i _ _ _ ec es c.start_values-d.ensures) (fresh_start i _ _ _ ec es c.start_values-d.ensures) zeros_sized)
 
 pub all_degrees_spec : {M : Type 1} → statement M
 all_degrees_spec =

@@ -34,7 +34,7 @@ parts_are row w0 w1 s0 s1 u power v0 v1 e f = rw (e, f)
 returns : tie.Need-returns
 returns c =
     let a = c.args in
-    parts_are a.row a.w0 a.w1 a.s0 a.s1 a.u a.a-over-r-n2 c.term_of-v0.result c.term_of-v1.result c.term_of-v0.ensures c.term_of-v1.ensures
+    parts_are a.row a.w0 a.w1 a.s0 a.s1 a.u a.a_over_r_n2 c.term_of-v0.result c.term_of-v1.result c.term_of-v0.ensures c.term_of-v1.ensures
 
 pub pole_parts_spec : {M : Type 1} → statement M
 pole_parts_spec = tie.close (tie.spec term_of-requires term_of-requires-2 returns)

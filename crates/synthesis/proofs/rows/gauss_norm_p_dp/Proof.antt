@@ -25,7 +25,7 @@ sub-if4 c = ⊎_elim (λ w. omega (arith, eqb-false)) (λ w. omega arith) c.else
 returns-3 : tie.Need-returns-then-m-n
 unfolding step rounded
 returns-3 c =
-    simp (ne_eqb _ _ c.if-n-m.false, ne_eqb c.args.n 1 (λ h. omega (arith, sub-if4 c.before)), lt-ltb _ _ c.if-m-n.true)
+    simp (ne_eqb _ _ c.if-n-m.false, ne_eqb c.args.n 1 (λ h. omega (arith, sub-if4 c.before.before.before.before)), lt-ltb _ _ c.if-m-n.true)
 
 lower_p_dp-requires : tie.Need-lower_p_dp-requires
 lower_p_dp-requires c κs = search rules
@@ -33,7 +33,7 @@ lower_p_dp-requires c κs = search rules
 returns-4 : tie.Need-returns
 returns-4 c =
     let o = c.args in
-    c.lower_p_dp.ensures ∙ ap pdp (sym (lower_branch _ _ _ o.n o.m _ _ _ (omega (arith, sub-if4 c.before, c.if-m-n.false))))
+    c.lower_p_dp.ensures ∙ ap pdp (sym (lower_branch _ _ _ o.n o.m _ _ _ (omega (arith, sub-if4 c.before.before, c.if-m-n.false))))
 
 pub gauss_norm_p_dp_spec : {M : Type 1} → statement M
 gauss_norm_p_dp_spec =
