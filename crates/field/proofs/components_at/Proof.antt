@@ -27,8 +27,8 @@ set_known : (c : tie.Joined-else-epoch_year-e) → known_epoch (start c).args.ep
 set_known c =
     let s = start c in
     ⊎_elim
-    (λ w. sym (w.1.ensures ∙ ap known_epoch (to_z-of_z w32 s.args.epoch_year s.fits.epoch_year)) ∙ not-false _ w.2.left)
-    (λ o. own_known _ _ s.fits.epoch_year s.pre.known o.left)
+    (λ w. sym (w.known_epoch.ensures ∙ ap known_epoch (to_z-of_z w32 s.args.epoch_year s.ranges.epoch_year)) ∙ not-false _ w.if-not-known_epoch.false-raw)
+    (λ o. own_known _ _ s.ranges.epoch_year s.requires.known o.if-epoch_year-e.false)
     c.else-epoch_year-e.branch-raw
 
 geodetic_to_geocentric-requires : tie.Need-geodetic_to_geocentric-p-requires
@@ -55,13 +55,13 @@ shown-requires c κs = search rules
 returns-2 : tie.Need-returns-in-Refused
 returns-2 c =
     let s = start c.before.before.before.before in
-    lists_refused _ _ s.pre (set_known c.before.before.before.before) _ c.geodetic_to_geocentric-p.ensures _ c.radius_ratio-ratio.ensures c.in-Refused.k (sym (ap said c.in-Refused.is) ∙ c.sum.ensures.0)
+    lists_refused _ _ s.requires (set_known c.before.before.before.before) _ c.geodetic_to_geocentric-p.ensures _ c.radius_ratio-ratio.ensures c.in-Refused.k (sym (ap said c.in-Refused.is) ∙ c.sum.ensures.0)
 
 returns-3 : tie.Need-returns-in-Sum
 returns-3 c =
     let s = start c.before.before.before.before.before.before.before in
-    strengths_shown _ _ s.pre (set_known c.before.before.before.before.before.before.before) _ c.geodetic_to_geocentric-p.ensures _ c.radius_ratio-ratio.ensures _ (sym (ap said c.in-Sum.is) ∙ c.sum.ensures.0) _ c.turn.ensures _
-    (rw (to_z-of_z w32 s.args.epoch_year s.fits.epoch_year, year_back s.args.e.epoch_year s.pre.known) at c.shown.ensures)
+    strengths_shown _ _ s.requires (set_known c.before.before.before.before.before.before.before) _ c.geodetic_to_geocentric-p.ensures _ c.radius_ratio-ratio.ensures _ (sym (ap said c.in-Sum.is) ∙ c.sum.ensures.0) _ c.turn.ensures _
+    (rw (to_z-of_z w32 s.args.epoch_year s.ranges.epoch_year, year_back s.args.e.epoch_year s.requires.known) at c.shown.ensures)
 
 pub components_at_spec : {M : Type 1} → statement M
 components_at_spec =
