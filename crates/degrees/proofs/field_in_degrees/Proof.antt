@@ -10,77 +10,60 @@ use borrow.Author.Rules.{rules}
 use Rattle.degrees.proofs.field_in_degrees.Statement.{statement}
 use Rattle.degrees.proofs.field_in_degrees.Tie as tie
 
-sine-and-cosine-requires : tie.Need-sine-and-cosine-requires
-sine-and-cosine-requires c κs = search rules
+sine_and_cosine-requires : tie.Need-sine_and_cosine-requires
+sine_and_cosine-requires c κs = search rules
 
-enum-known-k : tie.Need-enum-known-k
-enum-known-k c = search rules
+enum_known-k : tie.Need-enum_known-k
+enum_known-k c = search rules
 
-enum-known-phi : tie.Need-enum-known-phi
-enum-known-phi c = search rules
+enum_known-phi : tie.Need-enum_known-phi
+enum_known-phi c = search rules
 
-sine-and-cosine-requires-2 : tie.Need-sine-and-cosine-requires-2
-sine-and-cosine-requires-2 c κs = search rules
+sine_and_cosine-requires-2 : tie.Need-sine_and_cosine-requires-in-Made
+sine_and_cosine-requires-2 c κs = search rules
 
-enum-known-k-2 : tie.Need-enum-known-k-2
-enum-known-k-2 c = search rules
+enum_known-k-2 : tie.Need-enum_known-k-in-Refused-sine_and_cosine-2
+enum_known-k-2 c = search rules
 
-enum-known-lambda : tie.Need-enum-known-lambda
-enum-known-lambda c = search rules
+enum_known-lambda : tie.Need-enum_known-lambda
+enum_known-lambda c = search rules
 
 field-requires : tie.Need-field-requires
 field-requires c κs = search rules
 
 abbrev asks : tie.Start → Place
-asks s = let a = s.args in place a.height a.latitude-deg a.longitude-deg a.epoch_year a.g.now a.h.now a.g_dot.now a.h_dot.now
+asks s = let a = s.args in place a.height a.latitude_deg a.longitude_deg a.epoch_year a.g.now a.h.now a.g_dot.now a.h_dot.now
 
-returns : tie.Need-returns
+returns : tie.Need-returns-in-Refused
 returns c =
-    let t = c.before.before.before in
-    let s = t.before.before.before.before.before in
-    let d = s.args.day in
-    let e = latitude_refused (asks s) d.year d.day_of_year c.before.k.given.0.0 (sym (ap said c.before.k.given.1) ∙ t.sine_and_cosine.ensures.0) in
-    (e, (said_close (asks s) d.year d.day_of_year _ e, (refl, refl, refl, refl)))
+    let d = c.args.day in
+    let e = latitude_refused (asks c.before.before.before.before.before.before) d.year d.day_of_year c.in-Refused.k (sym (ap said c.in-Refused.is) ∙ c.sine_and_cosine.ensures.0) in
+    (e, (said_close (asks c.before.before.before.before.before.before) d.year d.day_of_year _ e, (refl, refl, refl, refl)))
 
 -- the pair of the latitude, once it is made
-module _ (c : tie.After-known-told2) where
+module _ (c : tie.In-Made) where
   abbrev start : tie.Start
-  start = c.before.before.before.before.before.before.before.before
+  start = c.before.before.before.before.before.before
 
-  made : answered c.before.phi.given.0.0 ≡ sine_says start.args.latitude-deg
-  made = sym (ap said c.before.phi.given.1) ∙ c.before.before.before.sine_and_cosine.ensures.0
+  made : answered c.in-Made.phi ≡ sine_says start.args.latitude_deg
+  made = sym (ap said c.in-Made.is) ∙ c.sine_and_cosine.ensures.0
 
-returns-2 : tie.Need-returns-2
+returns-2 : tie.Need-returns-in-Refused-sine_and_cosine
 returns-2 c =
-    let t = c.before.before.before in
-    let f = t.before in
-    let s = start f in
+    let s = start c.before.before in
     let d = s.args.day in
-    let e = longitude_refused (asks s) d.year d.day_of_year _ (made f) c.before.k2.given.0.0 (sym (ap said c.before.k2.given.1) ∙ t.sine-and-cosine2.ensures.0) in
+    let e = longitude_refused (asks s) d.year d.day_of_year _ (made c.before.before) c.in-Refused-sine_and_cosine.k (sym (ap said c.in-Refused-sine_and_cosine.is) ∙ c.sine_and_cosine-in-Made.ensures.0) in
     (e, (said_close (asks s) d.year d.day_of_year _ e, (refl, refl, refl, refl)))
 
-returns-3 : tie.Need-returns-3
+returns-3 : tie.Need-returns-in-Made-sine_and_cosine
 returns-3 c =
-    let l = c.before.before in
-    let t = l.before.before in
-    let f = t.before in
-    let s = start f in
+    let s = start c.before.before.before in
     let d = s.args.day in
-    let y = to_z-of_z w32 s.args.epoch_year s.fits.epoch_year in
-    let e = rw y at c.field.ensures.0 ∙ asked_field (asks s) d.year d.day_of_year _ (made f) _ (sym (ap said l.lambda.given.1) ∙ t.sine-and-cosine2.ensures.0) in
+    let y = to_z-of_z w32 s.args.epoch_year s.ranges.epoch_year in
+    let e = rw y at c.field.ensures.0 ∙ asked_field (asks s) d.year d.day_of_year _ (made c.before.before.before) _ (sym (ap said c.in-Made-sine_and_cosine.is) ∙ c.sine_and_cosine-in-Made.ensures.0) in
     (e, (said_close (asks s) d.year d.day_of_year _ e, (refl, refl, refl, refl)))
 
 pub field_in_degrees_spec : {M : Type 1} → statement M
 field_in_degrees_spec =
     tie.close
-    (tie.spec
-    sine-and-cosine-requires
-    enum-known-k
-    enum-known-phi
-    sine-and-cosine-requires-2
-    enum-known-k-2
-    enum-known-lambda
-    field-requires
-    returns
-    returns-2
-    returns-3)
+    (tie.spec sine_and_cosine-requires enum_known-k enum_known-phi sine_and_cosine-requires-2 enum_known-k-2 enum_known-lambda field-requires returns returns-2 returns-3)
