@@ -7,7 +7,7 @@ use Rattle.igrf.proofs.Years.{later_fits}
 use Rattle.igrf.proofs.five_later.Statement.{statement}
 use Rattle.igrf.proofs.five_later.Tie as tie
 
-add-result : tie.Need-overflow-add-result
+add-result : tie.Need-overflow_add-result
 add-result c = let y = c.args.year in rw (to_z-of_z w32 y c.ranges.year) (later_fits y c.requires.0 c.requires.1)
 
 returns : tie.Need-returns

@@ -7,14 +7,13 @@ use Rattle.igrf.proofs.Laws.{answer_rates_close}
 use Rattle.igrf.proofs.igrf_component_rates.Statement.{statement}
 use Rattle.igrf.proofs.igrf_component_rates.Tie as tie
 
-igrf-by-requires : tie.Need-igrf-by-requires
-igrf-by-requires c κs = search rules
+igrf_by-requires : tie.Need-igrf_by-requires
+igrf_by-requires c κs = search rules
 
 returns : tie.Need-returns
 returns c =
-    let s = c.before.before.before.before.before.before.before in
-    let e = rw (to_z-of_z w32 s.args.epoch_year s.ranges.epoch_year, to_z-of_z w32 s.args.second-epoch-year s.ranges.second-epoch-year) at c.igrf-by.ensures in
+    let e = rw (to_z-of_z w32 c.args.epoch_year c.ranges.epoch_year, to_z-of_z w32 c.args.second_epoch_year c.ranges.second_epoch_year) at c.igrf_by.ensures in
     (e, (answer_rates_close _ _ _ _ e, (refl, refl, refl, refl, refl, refl)))
 
 pub igrf_component_rates_spec : {M : Type 1} → statement M
-igrf_component_rates_spec = tie.close (tie.spec igrf-by-requires returns)
+igrf_component_rates_spec = tie.close (tie.spec igrf_by-requires returns)
