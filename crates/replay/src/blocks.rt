@@ -4,7 +4,8 @@ ghost use Rattle.std.specs.Prelude.{◌≤◌};
 
 use crate::lines::LONGEST;
 use crate::{lines, read, write};
-use libc::STDIN_FILENO;
+use std::io;
+use std::io::{Read, Write};
 
 // At the end of the input: a last line that no newline ends gets one.
 fn ended(input: &mut [u8], kept: usize) -> usize {
@@ -19,15 +20,15 @@ fn ended(input: &mut [u8], kept: usize) -> usize {
 }
 
 // Reads after the bytes that are there. Gives how many are there then, and 0 when all is read.
-fn fill(input: &mut [u8], kept: usize) -> usize {
+fn fill<R: Read>(reader: &mut R, input: &mut [u8], kept: usize) -> io::Result<usize> {
     if input.len() < kept {
-        return 0;
+        return Ok(0);
     }
-    let n = io::read_full(STDIN_FILENO, &mut input[kept..]);
+    let n = reader.read(&mut input[kept..])?;
     if n == 0 {
-        return ended(input, kept);
+        return Ok(ended(input, kept));
     }
-    kept + n
+    Ok(kept + n)
 }
 
 // The unfinished line goes to the front: the bytes from `from` to `end`. Of a line that is too long
@@ -50,17 +51,16 @@ fn keep(input: &mut [u8], from: usize, end: usize) -> usize {
 }
 
 // Gives the place after the whole lines.
-fn whole_lines(block: &[u8], out: &mut [u8], set: &mut [f32]) -> usize {
-    let mut at = 0;
+fn whole_lines<W: Write>(block: &[u8], out: &mut W, set: &mut [f32]) -> io::Result<usize> {
     let mut from = 0;
     let mut end = read::find(block, 0, b'\n');
     while end < block.len() {
-        at = lines::line(&block[from..end], out, at, set);
+        lines::line(&block[from..end], out, set)?;
         from = end + 1;
         end = read::find(block, from, b'\n');
     }
-    write::flush(out, at);
-    from
+    write::flush(out)?;
+    Ok(from)
 }
 
 fn least(a: usize, b: usize) -> usize
@@ -69,26 +69,31 @@ fn least(a: usize, b: usize) -> usize
     if a < b { a } else { b }
 }
 
-// The lines of the first `n` bytes. The output waits here, so that no caller has to carry it.
-fn answered(input: &[u8], n: usize, set: &mut [f32]) -> usize {
-    let mut out = io::large_buffer();
+// The lines of the first `n` bytes.
+fn answered<W: Write>(input: &[u8], n: usize, out: &mut W, set: &mut [f32]) -> io::Result<usize> {
     let end = least(n, input.len());
-    whole_lines(&input[0..end], &mut out, set)
+    whole_lines(&input[0..end], out, set)
 }
 
 // Block after block: its lines are answered, and the start of an unfinished line waits in the input
 // buffer. A proved loop has to end, and nothing says that the input does. So the turns are counted
 // down, from a number that no run uses up.
-pub fn all(input: &mut [u8], set: &mut [f32]) {
+pub fn all<R: Read, W: Write>(
+    reader: &mut R,
+    out: &mut W,
+    input: &mut [u8],
+    set: &mut [f32],
+) -> io::Result<()> {
     let mut turns = u64::MAX;
     let mut kept = 0;
     while turns > 0 {
-        let n = fill(input, kept);
+        let n = fill(reader, input, kept)?;
         if n == 0 {
-            return;
+            return Ok(());
         }
-        let from = answered(input, n, set);
+        let from = answered(input, n, out, set)?;
         kept = keep(input, from, n);
         turns -= 1;
     }
+    Ok(())
 }

@@ -49,7 +49,7 @@ pub const IRATES: u64 = 0x49_52_41_54_45_53;
 
 // What follows the first word, which ends at `at`: floats, then years and days, then the floats of a
 // published row or a list of error records.
-#[derive(Drop)]
+#[derive(Clone, Copy)]
 pub struct Form {
     pub at: usize,
     floats: u64,

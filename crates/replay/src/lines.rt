@@ -4,6 +4,8 @@ ghost use Rattle.std.specs.Prelude.{◌≤◌, length};
 use crate::read::NOWHERE;
 use crate::replies::Reply;
 use crate::{answers, read, replies, sets, write};
+use std::io;
+use std::io::Write;
 
 // The longest line that can be read.
 pub const LONGEST: usize = 8191;
@@ -52,15 +54,15 @@ fn reply(line: &[u8], shown: &[u8], set: &[f32]) -> Reply {
     answers::answer(shown, set)
 }
 
-fn put(line: &[u8], out: &mut [u8], at: usize, set: &[f32]) -> usize {
+fn put<W: Write>(line: &[u8], out: &mut W, set: &[f32]) -> io::Result<()> {
     let n = shown(line);
     let part = &line[0..n];
-    let mark = write::text(out, at, part);
-    let end = write::reply(out, mark, reply(line, part, set));
-    write::byte(out, end, b'\n')
+    write::text(out, part)?;
+    write::reply(out, reply(line, part, set))?;
+    write::byte(out, b'\n')
 }
 
-pub fn line(line: &[u8], out: &mut [u8], at: usize, set: &mut [f32]) -> usize {
+pub fn line<W: Write>(line: &[u8], out: &mut W, set: &mut [f32]) -> io::Result<()> {
     sets::take_if_one(line, set);
-    put(line, out, at, set)
+    put(line, out, set)
 }

@@ -7,8 +7,8 @@ use crate::{fields, read, sets};
 use field::FieldAnswer;
 use models::{ErrorModelAnswer, ErrorRecord, WmmErrorModel};
 
-// The figures of the first of `n` records that is of the year. This function alone lends records: its
-// proof is a walk by hand, so all others have them by value.
+// The figures of the first of `n` records that is of the year. This function alone lends records: all
+// others have them by value.
 fn searched(records: [ErrorRecord; 20], n: usize, epoch_year: i32) -> ErrorModelAnswer
     requires { n ≤ 20 }
 {

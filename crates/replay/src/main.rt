@@ -18,8 +18,12 @@ mod texts;
 mod write;
 mod yearly;
 
-fn main() {
-    let mut input = io::large_buffer();
+use std::io;
+use std::io::BufWriter;
+
+fn main(rt: HostRuntime) -> io::Result<()> {
+    let mut out = BufWriter::with_capacity(rt.alloc(), 65536, io::writer(&rt))?;
+    let mut input = [0u8; 65536];
     let mut set = [0.0f32; 1036];
-    blocks::all(&mut input, &mut set);
+    blocks::all(&mut rt.reader(), &mut out, &mut input, &mut set)
 }

@@ -1,37 +1,20 @@
-// Writing, by way of a buffer `out` that goes to standard output when it is full. A place is how
-// many bytes of `out` wait there. Each function takes the place and gives the next.
+// Writing to `out`, which holds what is written until it is full or flushed.
 ghost use Rattle.std.specs.Prelude.{◌≤◌};
 
 use crate::replies::{END, Reply};
-use libc::STDOUT_FILENO;
+use std::io;
+use std::io::Write;
 
-pub fn byte(out: &mut [u8], at: usize, b: u8) -> usize {
-    if at < out.len() {
-        out[at] = b;
-        return at + 1;
-    }
-    io::write_all(STDOUT_FILENO, out);
-    if 0 < out.len() {
-        out[0] = b;
-        return 1;
-    }
-    0
+pub fn byte<W: Write>(out: &mut W, b: u8) -> io::Result<()> {
+    out.write_all(&[b])
 }
 
-pub fn text(out: &mut [u8], at: usize, bytes: &[u8]) -> usize {
-    let mut next = at;
-    let mut i = 0;
-    while i < bytes.len() {
-        next = byte(out, next, bytes[i]);
-        i += 1;
-    }
-    next
+pub fn text<W: Write>(out: &mut W, bytes: &[u8]) -> io::Result<()> {
+    out.write_all(bytes)
 }
 
-pub fn flush(out: &mut [u8], at: usize) {
-    if at <= out.len() {
-        io::write_all(STDOUT_FILENO, &out[0..at]);
-    }
+pub fn flush<W: Write>(out: &mut W) -> io::Result<()> {
+    out.flush()
 }
 
 // The word =, of the mark. The mark's second space is the one before the answer's first word.
@@ -65,24 +48,23 @@ fn letter(word: u64, n: usize) -> u8
     }
 }
 
-fn byte_if_any(out: &mut [u8], at: usize, b: u8) -> usize {
+fn byte_if_any<W: Write>(out: &mut W, b: u8) -> io::Result<()> {
     if b == 0 {
-        return at;
+        return Ok(());
     }
-    byte(out, at, b)
+    byte(out, b)
 }
 
 // The mark and the answer: 13 words of nine bytes each.
-pub fn reply(out: &mut [u8], at: usize, reply: Reply) -> usize {
-    let mut next = at;
+pub fn reply<W: Write>(out: &mut W, reply: Reply) -> io::Result<()> {
     let mut i: usize = 0;
     while i < 117 {
         let w = word(reply, i / 9);
         if w == END {
-            return next;
+            return Ok(());
         }
-        next = byte_if_any(out, next, letter(w, i % 9));
+        byte_if_any(out, letter(w, i % 9))?;
         i += 1;
     }
-    next
+    Ok(())
 }
