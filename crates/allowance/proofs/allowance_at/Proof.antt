@@ -4,16 +4,16 @@ use borrow.Author.Rules.{rules}
 use Rattle.allowance.proofs.allowance_at.Statement.{statement}
 use Rattle.allowance.proofs.allowance_at.Tie as tie
 
-geodetic-to-geocentric-requires : tie.Need-geodetic-to-geocentric-requires
-geodetic-to-geocentric-requires c κs = search rules
+geodetic_to_geocentric-requires : tie.Need-geodetic_to_geocentric-p-requires
+geodetic_to_geocentric-requires c κs = search rules
 
-radius-ratio-requires : tie.Need-radius-ratio-requires
-radius-ratio-requires c κs = search rules
+radius_ratio-requires : tie.Need-radius_ratio-requires
+radius_ratio-requires c κs = search rules
 
 majorants-requires : tie.Need-majorants-requires
 majorants-requires c κs = search rules
 
-turn-requires : tie.Need-turn-requires
+turn-requires : tie.Need-turn-v-requires
 turn-requires c κs = search rules
 
 allowed-requires : tie.Need-allowed-requires
@@ -27,21 +27,9 @@ allowed-requires-3 c κs = search rules
 
 returns : tie.Need-returns
 returns c = λ y e h.
-    let b = c.before in
-    let u = b.before.before in
-    let v = u.before in
-    let q = v.before in
-    shown _ e _ _ _ _ _ _ _ _ q.before.geodetic_to_geocentric.ensures q.radius_ratio.ensures h v.majorants.ensures u.turn.ensures b.before.allowed.ensures b.allowed2.ensures c.allowed3.ensures
+    shown _ e _ _ _ _ _ _ _ _ c.geodetic_to_geocentric-p.ensures c.radius_ratio.ensures h c.majorants.ensures c.turn-v.ensures c.allowed.ensures c.allowed-2.ensures c.allowed-3.ensures
 
 pub allowance_at_spec : {M : Type 1} → statement M
 allowance_at_spec =
     tie.close
-    (tie.spec
-    geodetic-to-geocentric-requires
-    radius-ratio-requires
-    majorants-requires
-    turn-requires
-    allowed-requires
-    allowed-requires-2
-    allowed-requires-3
-    returns)
+    (tie.spec geodetic_to_geocentric-requires radius_ratio-requires majorants-requires turn-requires allowed-requires allowed-requires-2 allowed-requires-3 returns)

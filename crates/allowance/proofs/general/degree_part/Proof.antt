@@ -10,13 +10,13 @@ use Rattle.allowance.proofs.Lits.{abs_one, lit_size}
 use Rattle.allowance.proofs.general.degree_part.Statement.{statement}
 use Rattle.allowance.proofs.general.degree_part.Tie as tie
 
-int-to-float-degree : tie.Need-int-to-float-degree
+int_to_float-degree : tie.Need-int_to_float-degree
 unfolding in_float
-int-to-float-degree c = le→leb c.before.args.n (2 ^ 24) (omega arith)
+int_to_float-degree c = le→leb c.args.n (2 ^ 24) (omega arith)
 
 returns : tie.Need-returns
 unfolding degree_part bounds lit
-returns c = rw (← lit_size c.before.before.before.before.args.n, abs_one)
+returns c = rw (← lit_size c.args.n, abs_one)
 
 pub degree_part_spec : {M : Type 1} → statement M
-degree_part_spec = tie.close (tie.spec int-to-float-degree returns)
+degree_part_spec = tie.close (tie.spec int_to_float-degree returns)

@@ -12,59 +12,45 @@ use borrow.Author.Rules.{rules}
 use Rattle.allowance.proofs.general.row.Statement.{statement}
 use Rattle.allowance.proofs.general.row.Tie as tie
 
-abbrev invariant-loop : tie.invariant-loop
+abbrev invariant-loop : tie.invariant-loop-m
 invariant-loop n q g h g_dot h_dot acc₀ m₀ m-end acc m =
     (m ≤ n + 1) × (acc ≡ first_orders (lent_at q g h g_dot h_dot) n m)
 
-abbrev decreases-loop : tie.decreases-loop
+abbrev decreases-loop : tie.decreases-loop-m
 decreases-loop n q g h g_dot h_dot acc₀ m₀ m-end acc m =
     n + 1 - m
 
-add-m-end : tie.Need-overflow-add-m-end invariant-loop decreases-loop
+add-m-end : tie.Need-overflow_add-m-end invariant-loop decreases-loop
 add-m-end c = search rules
 
-loop-holds : tie.Need-loop-init invariant-loop decreases-loop
+loop-holds : tie.Need-loop-m-init invariant-loop decreases-loop
 unfolding total bounds
 loop-holds c = (search rules, rw abs_zero)
 
-term-requires : tie.Need-term-requires invariant-loop decreases-loop
+term-requires : tie.Need-term-t-requires invariant-loop decreases-loop
 term-requires c κs = search rules
 
-plus-requires : tie.Need-plus-requires invariant-loop decreases-loop
+plus-requires : tie.Need-plus-acc-requires invariant-loop decreases-loop
 plus-requires c κs = search rules
 
-add-m : tie.Need-overflow-add-m invariant-loop decreases-loop
+add-m : tie.Need-overflow_step-m invariant-loop decreases-loop
 add-m c = search rules
 
-loop-less : tie.Need-loop-smaller invariant-loop decreases-loop
+loop-less : tie.Need-loop-m-smaller invariant-loop decreases-loop
 loop-less c = search rules
 
-loop-again : tie.Need-loop-preserved invariant-loop decreases-loop
+loop-again : tie.Need-loop-m-preserved invariant-loop decreases-loop
 unfolding total plus_of
 loop-again c =
-    let t = c.before in
-    let l = t.before.before in
-    (search rules, c.plus.ensures ∙ rw (add-one, t.term.ensures, l.loop.invariant.1))
+    (search rules, c.plus-acc.ensures ∙ rw (add-one, c.term-t.ensures, c.loop-m.invariant.1))
 
 returns : tie.Need-returns invariant-loop decreases-loop
 unfolding x_row y_row z_row
 returns c =
-    let l = c.before in
-    let s = l.before.before.before.before.before in
-    let e : l.loop.m ≡ suc s.args.n = omega arith in
-    rw (l.loop.invariant.1, e)
+    let e : c.loop-m.m ≡ suc c.args.n = omega arith in
+    rw (c.loop-m.invariant.1, e)
 
 pub row_spec : {M : Type 1} → statement M
 row_spec =
     tie.close
-    (tie.spec
-    invariant-loop
-    decreases-loop
-    add-m-end
-    loop-holds
-    term-requires
-    plus-requires
-    add-m
-    loop-less
-    loop-again
-    returns)
+    (tie.spec invariant-loop decreases-loop add-m-end loop-holds term-requires plus-requires add-m loop-less loop-again returns)

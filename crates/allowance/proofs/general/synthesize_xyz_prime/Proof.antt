@@ -16,79 +16,58 @@ use borrow.Author.Rules.{rules}
 use Rattle.allowance.proofs.general.synthesize_xyz_prime.Statement.{statement}
 use Rattle.allowance.proofs.general.synthesize_xyz_prime.Tie as tie
 
-abbrev invariant-loop : tie.invariant-loop
+abbrev invariant-loop : tie.invariant-loop-j
 invariant-loop q g h g_dot h_dot ratio a-over-r-n2₀ tot₀ top j₀ a-over-r-n2 tot j =
     (j ≤ top) × (top ≡ degree_of (length g)) × (a-over-r-n2 ≡ power bounds (inputs bounds (lent_at q g h g_dot h_dot)) j) × (tot ≡ general (lent_at q g h g_dot h_dot) j)
 
-abbrev decreases-loop : tie.decreases-loop
+abbrev decreases-loop : tie.decreases-loop-j
 decreases-loop q g h g_dot h_dot ratio a-over-r-n2₀ tot₀ top j₀ a-over-r-n2 tot j =
     top - j
 
-abs-requires : tie.Need-abs-requires invariant-loop decreases-loop
+abs-requires : tie.Need-abs-ratio-requires invariant-loop decreases-loop
 abs-requires c κs = search rules
 
-degree-of-requires : tie.Need-degree-of-requires invariant-loop decreases-loop
-degree-of-requires c κs = search rules
+degree_of-requires : tie.Need-degree_of-top-requires invariant-loop decreases-loop
+degree_of-requires c κs = search rules
 
-loop-holds : tie.Need-loop-init invariant-loop decreases-loop
+loop-holds : tie.Need-loop-j-init invariant-loop decreases-loop
 unfolding power total x_sum y_sum z_sum inputs placed bounds
-loop-holds c = (search rules, c.degree_of.ensures, rw c.before.abs.ensures, rw abs_zero)
+loop-holds c = (search rules, c.degree_of-top.ensures, rw c.abs-ratio.ensures, rw abs_zero)
 
-add_row : tie.Need-overflow-add-row invariant-loop decreases-loop
+add_row : tie.Need-overflow_add-j invariant-loop decreases-loop
 add_row c = search rules
 
-row-requires : tie.Need-row-requires invariant-loop decreases-loop
+row-requires : tie.Need-row-a-requires invariant-loop decreases-loop
 row-requires c κs =
-    let l = c.before in
-    (omega arith, omega (arith, c.loop-test.true, l.loop.invariant.1), l.before.before.before.before.before.before.before.requires)
+    (omega arith, omega (arith, c.loop-j-test.true, c.loop-j.invariant.1), c.requires)
 
-add-degree-part : tie.Need-overflow-add-degree-part invariant-loop decreases-loop
-add-degree-part c = search rules
+add-degree_part : tie.Need-overflow_add-j-in-loop-j invariant-loop decreases-loop
+add-degree_part c = search rules
 
-degree-part-requires : tie.Need-degree-part-requires invariant-loop decreases-loop
-degree-part-requires c κs =
-    let w = c.before in
-    let l = w.before in
-    omega (arith, w.loop-test.true, l.loop.invariant.1, degree_high (length l.before.before.before.before.before.before.before.args.g.now))
+degree_part-requires : tie.Need-degree_part-t-requires invariant-loop decreases-loop
+degree_part-requires c κs =
+    omega (arith, c.loop-j-test.true, c.loop-j.invariant.1, degree_high (length c.args.g.now))
 
-plus-requires : tie.Need-plus-requires invariant-loop decreases-loop
+plus-requires : tie.Need-plus-tot-requires invariant-loop decreases-loop
 plus-requires c κs = search rules
 
-add-j : tie.Need-overflow-add-j invariant-loop decreases-loop
+add-j : tie.Need-overflow_step-j invariant-loop decreases-loop
 add-j c = search rules
 
-loop-less : tie.Need-loop-smaller invariant-loop decreases-loop
+loop-less : tie.Need-loop-j-smaller invariant-loop decreases-loop
 loop-less c = search rules
 
-loop-again : tie.Need-loop-preserved invariant-loop decreases-loop
+loop-again : tie.Need-loop-j-preserved invariant-loop decreases-loop
 loop-again c =
-    let d = c.before in
-    let r = d.before in
-    let l = r.before.before in
-    let e = l.loop.invariant in
-    (search rules, e.1, more_power _ _ _ _ e.2 l.before.before.abs.ensures, more_degrees _ _ _ _ _ _ _ e.2 e.3 r.row.ensures d.degree-part.ensures c.plus.ensures)
+    let e = c.loop-j.invariant in
+    (search rules, e.1, more_power _ _ _ _ e.2 c.abs-ratio.ensures, more_degrees _ _ _ _ _ _ _ e.2 e.3 c.row-a.ensures c.degree_part-t.ensures c.plus-tot.ensures)
 
 returns : tie.Need-returns invariant-loop decreases-loop
 returns c =
-    let l = c.before in
-    let e : l.loop.j ≡ degree_of (length l.before.before.before.before.before.before.before.args.g.now) = omega (arith, l.loop.invariant.0, l.loop.invariant.1) in
-    l.loop.invariant.3 ∙ rw e
+    let e : c.loop-j.j ≡ degree_of (length c.args.g.now) = omega (arith, c.loop-j.invariant.0, c.loop-j.invariant.1) in
+    c.loop-j.invariant.3 ∙ rw e
 
 pub synthesize_xyz_prime_spec : {M : Type 1} → statement M
 synthesize_xyz_prime_spec =
     tie.close
-    (tie.spec
-    invariant-loop
-    decreases-loop
-    abs-requires
-    degree-of-requires
-    loop-holds
-    add_row
-    row-requires
-    add-degree-part
-    degree-part-requires
-    plus-requires
-    add-j
-    loop-less
-    loop-again
-    returns)
+    (tie.spec invariant-loop decreases-loop abs-requires degree_of-requires loop-holds add_row row-requires add-degree_part degree_part-requires plus-requires add-j loop-less loop-again returns)

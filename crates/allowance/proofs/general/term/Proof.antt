@@ -15,25 +15,22 @@ use Rattle.allowance.proofs.Lits.{lit_size}
 use Rattle.allowance.proofs.general.term.Statement.{statement}
 use Rattle.allowance.proofs.general.term.Tie as tie
 
-sin-cos-m-lambda-requires : tie.Need-sin-cos-m-lambda-requires
-sin-cos-m-lambda-requires c κs = search rules
+sin_cos_m_lambda-requires : tie.Need-sin_cos_m_lambda-u-requires
+sin_cos_m_lambda-requires c κs = search rules
 
-parts-at-requires : tie.Need-parts-at-requires
-parts-at-requires c κs = search rules
+parts_at-requires : tie.Need-parts_at-w-requires
+parts_at-requires c κs = search rules
 
-int-to-float-order : tie.Need-int-to-float-order
+int_to_float-order : tie.Need-int_to_float-order
 unfolding in_float
-int-to-float-order c =
-    let s = c.before.before.before.before.before.before.before in
-    le→leb s.args.m (2 ^ 24) (omega (arith, s.requires.1, s.requires.2, degree_high (length s.args.g.now)))
+int_to_float-order c =
+    le→leb c.args.m (2 ^ 24) (omega (arith, c.requires.1, c.requires.2, degree_high (length c.args.g.now)))
 
 returns : tie.Need-returns
 unfolding parts_of bounds lit gc_hs gs_hc inputs placed
 returns c =
-    let p = c.before.before.before.before.before in
-    let s = p.before.before.before.before.before.before in
-    rw (p.parts_at.ensures, p.before.sin-cos-m-lambda.ensures, ← lit_size s.args.m)
+    rw (c.parts_at-w.ensures, c.sin_cos_m_lambda-u.ensures, ← lit_size c.args.m)
 
 pub term_spec : {M : Type 1} → statement M
 term_spec =
-    tie.close (tie.spec sin-cos-m-lambda-requires parts-at-requires int-to-float-order returns)
+    tie.close (tie.spec sin_cos_m_lambda-requires parts_at-requires int_to_float-order returns)

@@ -10,74 +10,50 @@ use borrow.Author.Rules.{rules}
 use Rattle.allowance.proofs.near_pole.pole_part.Statement.{statement}
 use Rattle.allowance.proofs.near_pole.pole_part.Tie as tie
 
-add-n : tie.Need-overflow-add-n
+add-n : tie.Need-overflow_add-n
 add-n c = search rules
 
-pole-sin-cos-requires : tie.Need-pole-sin-cos-requires
-pole-sin-cos-requires c κs = search rules
+pole_sin_cos-requires : tie.Need-pole_sin_cos-u0-requires
+pole_sin_cos-requires c κs = search rules
 
-pole-sin-cos-requires-2 : tie.Need-pole-sin-cos-requires-2
-pole-sin-cos-requires-2 c κs = search rules
+pole_sin_cos-requires-2 : tie.Need-pole_sin_cos-u1-requires
+pole_sin_cos-requires-2 c κs = search rules
 
-parts-at-requires : tie.Need-parts-at-requires
-parts-at-requires c κs = search rules
+parts_at-requires : tie.Need-parts_at-w0-requires
+parts_at-requires c κs = search rules
 
-parts-at-requires-2 : tie.Need-parts-at-requires-2
-parts-at-requires-2 c κs = search rules
+parts_at-requires-2 : tie.Need-parts_at-w1-requires
+parts_at-requires-2 c κs = search rules
 
-schmidt-table-requires : tie.Need-schmidt-table-requires
-schmidt-table-requires c κs = search rules
+schmidt_table-requires : tie.Need-schmidt_table-ss-requires
+schmidt_table-requires c κs = search rules
 
-legendre-index-requires : tie.Need-legendre-index-requires
-legendre-index-requires c κs =
-    let s = c.before.before.before.before.before.before.before.before.before in
-    (omega (arith, s.requires.0, degree_high (length s.args.g.now)), omega arith)
+legendre_index-requires : tie.Need-legendre_index-requires
+legendre_index-requires c κs =
+    (omega (arith, c.requires.0, degree_high (length c.args.g.now)), omega arith)
 
-mul-abs : tie.Need-overflow-mul-abs
+mul-abs : tie.Need-offset_bounds-ss-legendre_index
 mul-abs c = search rules
 
-array-read-abs : tie.Need-array-read-abs
-array-read-abs c = search rules
+array_read-abs : tie.Need-bounds-ss-legendre_index
+array_read-abs c = search rules
 
-abs-requires : tie.Need-abs-requires
+abs-requires : tie.Need-abs-s-requires
 abs-requires c κs = search rules
 
-quotient-of-requires : tie.Need-quotient-of-requires
-quotient-of-requires c κs =
-    let s = c.before.before.before.before.before.before.before.before.before.before.before in
-    omega (arith, s.requires.0, degree_high (length s.args.g.now))
+quotient_of-requires : tie.Need-quotient_of-q_n-requires
+quotient_of-requires c κs =
+    omega (arith, c.requires.0, degree_high (length c.args.g.now))
 
-degree-part-requires : tie.Need-degree-part-requires
-degree-part-requires c κs =
-    let s = c.before.before.before.before.before.before.before.before.before.before.before.before.before.before.before.before in
-    omega (arith, s.requires.0, degree_high (length s.args.g.now))
+degree_part-requires : tie.Need-degree_part-d-requires
+degree_part-requires c κs =
+    omega (arith, c.requires.0, degree_high (length c.args.g.now))
 
 returns : tie.Need-returns
 returns c =
-    let d = c.before in
-    let k = d.before.before.before.before.before in
-    let b = k.before in
-    let i = b.before in
-    let t = i.before in
-    let w1 = t.before in
-    let w0 = w1.before in
-    let u1 = w0.before in
-    pole_degree_is _ _ _ _ _ _ _ _ _ _ u1.before.pole-sin-cos.ensures u1.pole-sin-cos2.ensures w0.parts_at.ensures w1.parts-at2.ensures (b.abs.ensures ∙ ap abs (s_place _ _ _ _ t.schmidt_table.ensures i.legendre-index.ensures)) (k.quotient-of.ensures _ refl) d.degree-part.ensures
+    pole_degree_is _ _ _ _ _ _ _ _ _ _ c.pole_sin_cos-u0.ensures c.pole_sin_cos-u1.ensures c.parts_at-w0.ensures c.parts_at-w1.ensures (c.abs-s.ensures ∙ ap abs (s_place _ _ _ _ c.schmidt_table-ss.ensures c.legendre_index.ensures)) (c.quotient_of-q_n.ensures _ refl) c.degree_part-d.ensures
 
 pub pole_part_spec : {M : Type 1} → statement M
 pole_part_spec =
     tie.close
-    (tie.spec
-    add-n
-    pole-sin-cos-requires
-    pole-sin-cos-requires-2
-    parts-at-requires
-    parts-at-requires-2
-    schmidt-table-requires
-    legendre-index-requires
-    mul-abs
-    array-read-abs
-    abs-requires
-    quotient-of-requires
-    degree-part-requires
-    returns)
+    (tie.spec add-n pole_sin_cos-requires pole_sin_cos-requires-2 parts_at-requires parts_at-requires-2 schmidt_table-requires legendre_index-requires mul-abs array_read-abs abs-requires quotient_of-requires degree_part-requires returns)

@@ -12,7 +12,7 @@ abs-requires-2 c κs = search rules
 
 returns : tie.Need-returns
 unfolding span
-returns c = rw (c.before.abs.ensures, c.abs2.ensures)
+returns c = rw (c.abs.ensures, c.abs-2.ensures)
 
 pub span_spec : {M : Type 1} → statement M
 span_spec = tie.close (tie.spec abs-requires abs-requires-2 returns)

@@ -20,11 +20,11 @@ zeros = replicate 104 (of_bits binary32 0)
 abbrev at : List Float → List Float → ℕ → Float
 at from to k = span (get_or from k nought) (get_or to k nought)
 
-abbrev invariant-loop : tie.invariant-loop
+abbrev invariant-loop : tie.invariant-loop-k
 invariant-loop from to r₀ k₀ k-end r k =
     (k ≤ length from) × (k-end ≡ length from) × (r ≡ first (at from to) k ++ drop k zeros)
 
-abbrev decreases-loop : tie.decreases-loop
+abbrev decreases-loop : tie.decreases-loop-k
 decreases-loop from to r₀ k₀ k-end r k =
     k-end - k
 
@@ -32,72 +32,54 @@ decreases-loop from to r₀ k₀ k-end r k =
 span_is : (from to : List Float) (k : ℕ) → k < length from → k < length to → span (get_or from k nan) (get_or to k nan) ≡ at from to k
 span_is from to k h i = rw (get_any from k nan nought h, get_any to k nan nought i)
 
-loop-holds : tie.Need-loop-init invariant-loop decreases-loop
+loop-holds : tie.Need-loop-k-init invariant-loop decreases-loop
 unfolding first
 loop-holds c = (search rules, refl, refl)
 
-mul-span : tie.Need-overflow-mul-span invariant-loop decreases-loop
+mul-span : tie.Need-offset_bounds-from-k invariant-loop decreases-loop
 mul-span c = search rules
 
-shared-slice-read-span : tie.Need-shared-slice-read-span invariant-loop decreases-loop
-shared-slice-read-span c = search rules
+shared_slice_read-span : tie.Need-bounds-from-k invariant-loop decreases-loop
+shared_slice_read-span c = search rules
 
-mul-span-2 : tie.Need-overflow-mul-span-2 invariant-loop decreases-loop
+mul-span-2 : tie.Need-offset_bounds-to-k invariant-loop decreases-loop
 mul-span-2 c = search rules
 
-shared-slice-read-span-2 : tie.Need-shared-slice-read-span-2 invariant-loop decreases-loop
-shared-slice-read-span-2 c = search rules
+shared_slice_read-span-2 : tie.Need-bounds-to-k invariant-loop decreases-loop
+shared_slice_read-span-2 c = search rules
 
 span-requires : tie.Need-span-requires invariant-loop decreases-loop
 span-requires c κs = search rules
 
-mul-r : tie.Need-overflow-mul-r invariant-loop decreases-loop
+mul-r : tie.Need-offset_bounds-r-k invariant-loop decreases-loop
 mul-r c = search rules
 
-array-write-r : tie.Need-array-write-r invariant-loop decreases-loop
-array-write-r c = search rules
+array_write-r : tie.Need-bounds-r-k invariant-loop decreases-loop
+array_write-r c = search rules
 
-add-k : tie.Need-overflow-add-k invariant-loop decreases-loop
+add-k : tie.Need-overflow_step-k invariant-loop decreases-loop
 add-k c = search rules
 
-loop-less : tie.Need-loop-smaller invariant-loop decreases-loop
+loop-less : tie.Need-loop-k-smaller invariant-loop decreases-loop
 loop-less c = search rules
 
-loop-again : tie.Need-loop-preserved invariant-loop decreases-loop
+loop-again : tie.Need-loop-k-preserved invariant-loop decreases-loop
 loop-again c =
-    let w = c.before.before.before in
-    let l = w.before in
-    let s = l.before.before.before in
-    let a = s.args in
-    let k = l.loop.k in
-    let h : k < length a.from.now = omega (arith, w.loop-test.true, l.loop.invariant.1) in (
+    let a = c.args in
+    let k = c.loop-k.k in
+    let h : k < length a.from.now = omega (arith, c.loop-k-test.true, c.loop-k.invariant.1) in (
       omega (arith, h),
-      l.loop.invariant.1,
-      first_next (at a.from.now a.to.now) k _ zeros _ (omega (arith, h, s.requires.0, length-replicate 104 (of_bits binary32 0))) l.loop.invariant.2
-          (c.span.ensures ∙ span_is a.from.now a.to.now k h (omega (arith, h, s.requires.1))),
+      c.loop-k.invariant.1,
+      first_next (at a.from.now a.to.now) k _ zeros _ (omega (arith, h, c.requires.0, length-replicate 104 (of_bits binary32 0))) c.loop-k.invariant.2
+          (c.span.ensures ∙ span_is a.from.now a.to.now k h (omega (arith, h, c.requires.1))),
     )
 
 returns : tie.Need-returns invariant-loop decreases-loop
 returns c =
-    let l = c.before in
-    let e : l.loop.k ≡ length l.before.before.before.args.from.now = omega (arith, l.loop.invariant.0, l.loop.invariant.1) in
-    rw e at l.loop.invariant.2
+    let e : c.loop-k.k ≡ length c.args.from.now = omega (arith, c.loop-k.invariant.0, c.loop-k.invariant.1) in
+    rw e at c.loop-k.invariant.2
 
 pub spans_between_spec : {M : Type 1} → statement M
 spans_between_spec =
     tie.close
-    (tie.spec
-    invariant-loop
-    decreases-loop
-    loop-holds
-    mul-span
-    shared-slice-read-span
-    mul-span-2
-    shared-slice-read-span-2
-    span-requires
-    mul-r
-    array-write-r
-    add-k
-    loop-less
-    loop-again
-    returns)
+    (tie.spec invariant-loop decreases-loop loop-holds mul-span shared_slice_read-span mul-span-2 shared_slice_read-span-2 span-requires mul-r array_write-r add-k loop-less loop-again returns)

@@ -6,13 +6,13 @@ use borrow.Author.Rules.{rules}
 use Rattle.allowance.proofs.rows.legendre_index.Statement.{statement}
 use Rattle.allowance.proofs.rows.legendre_index.Tie as tie
 
-add-result : tie.Need-overflow-add-result
+add-result : tie.Need-overflow_add-result
 add-result c = search rules
 
-mul-result : tie.Need-overflow-mul-result
+mul-result : tie.Need-overflow_mul-result
 mul-result c = omega (arith, most c.args.n c.requires.0)
 
-add-result-2 : tie.Need-overflow-add-result-2
+add-result-2 : tie.Need-overflow_add-result-2
 add-result-2 c = omega (arith, most c.args.n c.requires.0)
 
 returns : tie.Need-returns

@@ -15,7 +15,7 @@ abs-requires-3 c κs = search rules
 
 returns : tie.Need-returns
 unfolding bounds
-returns c = rw (c.before.before.abs.ensures, c.before.abs2.ensures, c.abs3.ensures)
+returns c = rw (c.abs.ensures, c.abs-2.ensures, c.abs-3.ensures)
 
 pub coeff_at_t_spec : {M : Type 1} → statement M
 coeff_at_t_spec = tie.close (tie.spec abs-requires abs-requires-2 abs-requires-3 returns)

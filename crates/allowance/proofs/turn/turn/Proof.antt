@@ -10,16 +10,16 @@ use borrow.Author.Rules.{rules}
 use Rattle.allowance.proofs.turn.turn.Statement.{statement}
 use Rattle.allowance.proofs.turn.turn.Tie as tie
 
-abs-requires : tie.Need-abs-requires
+abs-requires : tie.Need-abs-c-requires
 abs-requires c κs = search rules
 
-abs-requires-2 : tie.Need-abs-requires-2
+abs-requires-2 : tie.Need-abs-s-requires
 abs-requires-2 c κs = search rules
 
-abs-requires-3 : tie.Need-abs-requires-3
+abs-requires-3 : tie.Need-abs-cp-requires
 abs-requires-3 c κs = search rules
 
-abs-requires-4 : tie.Need-abs-requires-4
+abs-requires-4 : tie.Need-abs-sp-requires
 abs-requires-4 c κs = search rules
 
 -- over variables, so that the places of the code are written out once
@@ -34,11 +34,9 @@ turned v c s cp sp c' s' cp' sp' e f g h = rw (e, f, g, h)
 
 returns : tie.Need-returns
 returns c =
-    let d = c.before.before.before.before in
-    let e = d.before.before in
-    let a = e.before.before.args in
-    turned a.v a.cos_theta a.sin_theta a.latitude.cos a.latitude.sin e.before.abs.result e.abs2.result d.before.abs3.result d.abs4.result
-    e.before.abs.ensures e.abs2.ensures d.before.abs3.ensures d.abs4.ensures
+    let a = c.args in
+    turned a.v a.cos_theta a.sin_theta a.latitude.cos a.latitude.sin c.abs-c.result c.abs-s.result c.abs-cp.result c.abs-sp.result
+    c.abs-c.ensures c.abs-s.ensures c.abs-cp.ensures c.abs-sp.ensures
 
 pub turn_spec : {M : Type 1} → statement M
 turn_spec = tie.close (tie.spec abs-requires abs-requires-2 abs-requires-3 abs-requires-4 returns)

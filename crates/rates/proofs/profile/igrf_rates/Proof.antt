@@ -20,26 +20,26 @@ use Rattle.rates.proofs.profile.igrf_rates.Tie as tie
 igrf-requires : tie.Need-igrf-requires
 igrf-requires c κs = search rules
 
-enum-known-k : tie.Need-enum-known-k
-enum-known-k c = search rules
+enum_known-k : tie.Need-enum_known-k
+enum_known-k c = search rules
 
-enum-known-c : tie.Need-enum-known-c
-enum-known-c c = search rules
+enum_known-c : tie.Need-enum_known-c
+enum_known-c c = search rules
 
-bare-record-requires : tie.Need-bare-record-requires
-bare-record-requires c κs = search rules
+bare_record-requires : tie.Need-bare_record-v-requires
+bare_record-requires c κs = search rules
 
-horizontal-requires : tie.Need-horizontal-requires
+horizontal-requires : tie.Need-horizontal-strength-requires
 horizontal-requires c κs = search rules
 
-igrf-component-rates-requires : tie.Need-igrf-component-rates-requires
-igrf-component-rates-requires c κs = search rules
+igrf_component_rates-requires : tie.Need-igrf_component_rates-requires
+igrf_component_rates-requires c κs = search rules
 
-enum-known-k-2 : tie.Need-enum-known-k-2
-enum-known-k-2 c = search rules
+enum_known-k-2 : tie.Need-enum_known-k-in-Refused-igrf_component_rates
+enum_known-k-2 c = search rules
 
-enum-known-r : tie.Need-enum-known-r
-enum-known-r c = search rules
+enum_known-r : tie.Need-enum_known-r
+enum_known-r c = search rules
 
 -- what is asked
 abbrev begun : tie.After-igrf → tie.Start
@@ -48,7 +48,7 @@ begun c = c.before.before.before.before.before.before.before
 abbrev asks : tie.Start → Profile
 asks s =
     let a = s.args in
-    profile (asked a.height a.latitude.sin a.latitude.cos a.longitude.sin a.longitude.cos a.epoch_year a.g.now a.h.now a.g_dot.now a.h_dot.now) a.second-epoch-year a.second_g.now a.second_h.now
+    profile (asked a.height a.latitude.sin a.latitude.cos a.longitude.sin a.longitude.cos a.epoch_year a.g.now a.h.now a.g_dot.now a.h_dot.now) a.second_epoch_year a.second_g.now a.second_h.now
 
 abbrev year : tie.Start → ℤ
 year s = s.args.day.year
@@ -59,88 +59,65 @@ day s = s.args.day.day_of_year
 igrf_said : (c : tie.After-igrf) → igrfs.said c.igrf.result ≡ igrf_says (asks (begun c)) (year (begun c)) (day (begun c))
 igrf_said c =
     let s = begun c in
-    rw (to_z-of_z w32 s.args.epoch_year s.fits.epoch_year, to_z-of_z w32 s.args.second-epoch-year s.fits.second-epoch-year) at c.igrf.ensures.0
+    rw (to_z-of_z w32 s.args.epoch_year s.ranges.epoch_year, to_z-of_z w32 s.args.second_epoch_year s.ranges.second_epoch_year) at c.igrf.ensures.0
 
-returns-2 : tie.Need-returns-2
+returns-2 : tie.Need-returns-in-Refused
 returns-2 c =
-    let k = c.before in
-    let f = k.before.before in
-    let s = begun f in
-    let e = igrf_refused (asks s) (year s) (day s) k.k.given.0.0 (sym (ap igrfs.said k.k.given.1) ∙ igrf_said f) in
+    let s = begun c.before in
+    let e = igrf_refused (asks s) (year s) (day s) c.in-Refused.k (sym (ap igrfs.said c.in-Refused.is) ∙ igrf_said c.before) in
     (e, (answer_close _ _ _ _ e, (answer_finite _ _ _ _ e, (refl, refl, refl, refl, refl, refl))))
 
 -- X, Y and Z are answered
-module _ (h : tie.After-horizontal) where
-  abbrev known : tie.After-c
-  known = h.before.before.before
+module _ (h : tie.After-horizontal-strength) where
+  abbrev known : tie.In-Components
+  known = h.before.before
 
   abbrev call : tie.After-igrf
-  call = known.before.before
+  call = known.before
 
   abbrev start : tie.Start
   start = begun call
 
   abbrev shown : Xyz
-  shown = known.c.given.0.0
+  shown = known.in-Components.c
 
   answer : answered shown ≡ igrf_says (asks start) (year start) (day start)
-  answer = sym (ap igrfs.said known.c.given.1) ∙ igrf_said call
+  answer = sym (ap igrfs.said known.in-Components.is) ∙ igrf_said call
 
   abbrev kept : GeomagneticField
-  kept = h.before.bare_record.result
+  kept = h.bare_record-v.result
 
   -- H of their record
-  tested : (b : Bool) → eq h.horizontal.result (of_bits binary32 0) ≡ b → eq (h_of kept) (of_bits binary32 0) ≡ b
-  tested b e = ap (λ (x : Float). eq x (of_bits binary32 0)) (sym h.horizontal.ensures) ∙ e
+  tested : (b : Bool) → eq h.horizontal-strength.result (of_bits binary32 0) ≡ b → eq (h_of kept) (of_bits binary32 0) ≡ b
+  tested b e = ap (λ (x : Float). eq x (of_bits binary32 0)) (sym h.horizontal-strength.ensures) ∙ e
 
-returns : tie.Need-returns
+returns : tie.Need-returns-then-strength
 returns c =
-    let h = c.before in
-    let s = start h in
-    let e = nothing_divides (asks s) (year s) (day s) (shown h) (answer h) (kept h) h.before.bare_record.ensures (tested h true c.if1.true) in
+    let s = start c.before in
+    let e = nothing_divides (asks s) (year s) (day s) (shown c.before) (answer c.before) (kept c.before) c.bare_record-v.ensures (tested c.before true c.if-strength.true) in
     (e, (answer_close _ _ _ _ e, (answer_finite _ _ _ _ e, (refl, refl, refl, refl, refl, refl))))
 
-rates_said : (c : tie.After-igrf-component-rates) → (let s = start c.before.before in igrfs.said c.igrf_component_rates.result ≡ rate_says (asks s) (year s) (day s))
+rates_said : (c : tie.After-igrf_component_rates) → (let s = start c.before.before in igrfs.said c.igrf_component_rates.result ≡ rate_says (asks s) (year s) (day s))
 rates_said c =
     let s = start c.before.before in
-    rw (to_z-of_z w32 s.args.epoch_year s.fits.epoch_year, to_z-of_z w32 s.args.second-epoch-year s.fits.second-epoch-year) at c.igrf_component_rates.ensures.0
+    rw (to_z-of_z w32 s.args.epoch_year s.ranges.epoch_year, to_z-of_z w32 s.args.second_epoch_year s.ranges.second_epoch_year) at c.igrf_component_rates.ensures.0
 
-returns-3 : tie.Need-returns-3
+returns-3 : tie.Need-returns-in-Refused-igrf_component_rates
 returns-3 c =
-    let k = c.before in
-    let m = k.before.before in
-    let h = m.before.before in
-    let s = start h in
-    absurd (rates_given (asks s) (year s) (day s) (shown h) (answer h) (kept h) h.before.bare_record.ensures k.k2.given.0.0 (sym (ap igrfs.said k.k2.given.1) ∙ rates_said m))
+    let s = start c.before.before.before in
+    absurd (rates_given (asks s) (year s) (day s) (shown c.before.before.before) (answer c.before.before.before) (kept c.before.before.before) c.bare_record-v.ensures c.in-Refused-igrf_component_rates.k (sym (ap igrfs.said c.in-Refused-igrf_component_rates.is) ∙ rates_said c.before))
 
-rates-with-requires : tie.Need-rates-with-requires
-rates-with-requires c κs =
-    let l = c.before.before.before.before in
-    (l.before.horizontal.ensures, l.if1.false)
+rates_with-requires : tie.Need-rates_with-requires
+rates_with-requires c κs =
+    (c.horizontal-strength.ensures, c.if-strength.false)
 
-returns-4 : tie.Need-returns-4
+returns-4 : tie.Need-returns-in-Components-igrf_component_rates
 returns-4 c =
-    let r = c.before.before in
-    let m = r.before.before in
-    let h = m.before.before in
-    let s = start h in
-    let w = rates_shown (asks s) (year s) (day s) (shown h) (answer h) (kept h) h.before.bare_record.ensures _ (sym (ap igrfs.said r.r.given.1) ∙ rates_said m) _ c.rates-with.ensures in
+    let s = start c.before.before.before.before in
+    let w = rates_shown (asks s) (year s) (day s) (shown c.before.before.before.before) (answer c.before.before.before.before) (kept c.before.before.before.before) c.bare_record-v.ensures _ (sym (ap igrfs.said c.in-Components-igrf_component_rates.is) ∙ rates_said c.before.before) _ c.rates_with.ensures in
     (w, (answer_close _ _ _ _ w, (answer_finite _ _ _ _ w, (refl, refl, refl, refl, refl, refl))))
 
 pub igrf_rates_spec : {M : Type 1} → statement M
 igrf_rates_spec =
     tie.close
-    (tie.spec
-    igrf-requires
-    enum-known-k
-    enum-known-c
-    bare-record-requires
-    horizontal-requires
-    returns
-    igrf-component-rates-requires
-    enum-known-k-2
-    enum-known-r
-    rates-with-requires
-    returns-2
-    returns-3
-    returns-4)
+    (tie.spec igrf-requires enum_known-k enum_known-c bare_record-requires horizontal-requires returns igrf_component_rates-requires enum_known-k-2 enum_known-r rates_with-requires returns-2 returns-3 returns-4)
