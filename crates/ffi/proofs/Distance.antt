@@ -14,6 +14,7 @@ use types.Logic.{Logic}
 use contract.Monad.{Fun, fact}
 use contract.Lifetimes.{Lfts}
 use denote.Ref.{Bor}
+use denote.MutBor.{MutBor}
 use denote.Triple.Entry.{Args}
 use denote.Triple.Clauses.{at_exit}
 use borrow.Fn.Kinds.{Dens, ended_of}
@@ -165,7 +166,7 @@ either_field_answers s height sp cp sl cl year day = behind_one (says_of (entrie
 
 -- ---- the entries
 -- whatever is passed: if it returns 0, what it has written are the floats of one record, whose X, Y and Z lie within the promised distance
-pub njerumoy_field_distance : (κs : Lfts 8) (height sin_phi cos_phi sin_lambda cos_lambda : Float) (year day epoch_year : ℤ) (g h g_dot h_dot xyz errors : Bor (List Float)) (entry : Bor (List ℕ)) (years : Bor (List ℤ))
+pub njerumoy_field_distance : (κs : Lfts 8) (height sin_phi cos_phi sin_lambda cos_lambda : Float) (year day epoch_year : ℤ) (g h g_dot h_dot : Bor (List Float)) (xyz errors : MutBor (List Float)) (entry : MutBor (List ℕ)) (years : MutBor (List ℤ))
     (xyz' errors' : List Float) (entry' : List ℕ) (years' : List ℤ)
     → (let a : Dens κs kinds.ps = (height, (sin_phi, (cos_phi, (sin_lambda, (cos_lambda, (year, (day, (epoch_year, (g, (h, (g_dot, (h_dot, (xyz, (errors, (entry, (years, tt)))))))))))))))) in
     reads.Post κs a 0 (at_exit (ended_of 8 kinds.ps kinds.r) κs a (tt, (tt, (tt, (tt, (tt, (tt, (tt, (tt, (tt, (tt, (tt, (tt, (xyz', (errors', (entry', (years', tt))))))))))))))))))
@@ -181,7 +182,7 @@ rates_answer : (a : Asked) (year day : ℤ) → Answers (rates_says a year day)
 unfolding rates_says rates_with
 rates_answer a year day = behind_answer (field_says a year day) _ (field_answers a year day) (λ v. behind_test (not (zero_divisor v)) ZeroDivisor _ (answers _))
 
-pub njerumoy_rates_distance : (κs : Lfts 7) (height sin_phi cos_phi sin_lambda cos_lambda : Float) (year day epoch_year : ℤ) (g h g_dot h_dot rates : Bor (List Float)) (entry : Bor (List ℕ)) (years : Bor (List ℤ))
+pub njerumoy_rates_distance : (κs : Lfts 7) (height sin_phi cos_phi sin_lambda cos_lambda : Float) (year day epoch_year : ℤ) (g h g_dot h_dot : Bor (List Float)) (rates : MutBor (List Float)) (entry : MutBor (List ℕ)) (years : MutBor (List ℤ))
     (rates' : List Float) (entry' : List ℕ) (years' : List ℤ)
     → (let a : Dens κs rates_kinds.ps = (height, (sin_phi, (cos_phi, (sin_lambda, (cos_lambda, (year, (day, (epoch_year, (g, (h, (g_dot, (h_dot, (rates, (entry, (years, tt))))))))))))))) in
     rates_reads.Post κs a 0 (at_exit (ended_of 7 rates_kinds.ps rates_kinds.r) κs a (tt, (tt, (tt, (tt, (tt, (tt, (tt, (tt, (tt, (tt, (tt, (tt, (rates', (entry', (years', tt)))))))))))))))))
@@ -193,7 +194,7 @@ njerumoy_rates_distance κs height sin_phi cos_phi sin_lambda cos_lambda year da
     (v, c.0.1 ∙ ap (result_place rate_floats _) q.1, rate_answers.answer_close a year day (RatesAnswer.Rates v) (sym q.1) v refl, all_finite a year day v q.1)
 
 -- the same of the entry in degrees, of the exact field of the pairs that are made of the two angles
-pub njerumoy_field_in_degrees_distance : (κs : Lfts 8) (height latitude longitude : Float) (year day epoch_year : ℤ) (g h g_dot h_dot xyz errors : Bor (List Float)) (entry : Bor (List ℕ)) (years : Bor (List ℤ))
+pub njerumoy_field_in_degrees_distance : (κs : Lfts 8) (height latitude longitude : Float) (year day epoch_year : ℤ) (g h g_dot h_dot : Bor (List Float)) (xyz errors : MutBor (List Float)) (entry : MutBor (List ℕ)) (years : MutBor (List ℤ))
     (xyz' errors' : List Float) (entry' : List ℕ) (years' : List ℤ)
     → (let a : Dens κs degrees_kinds.ps = (height, (latitude, (longitude, (year, (day, (epoch_year, (g, (h, (g_dot, (h_dot, (xyz, (errors, (entry, (years, tt)))))))))))))) in
     degrees_reads.Post κs a 0 (at_exit (ended_of 8 degrees_kinds.ps degrees_kinds.r) κs a (tt, (tt, (tt, (tt, (tt, (tt, (tt, (tt, (tt, (tt, (xyz', (errors', (entry', (years', tt))))))))))))))))
@@ -206,7 +207,7 @@ njerumoy_field_in_degrees_distance κs height latitude longitude year day epoch_
     (r.0, r.1, v, r.3, r.4, c.0.1 ∙ ap (result_place field_floats _) r.5, c.0.2 ∙ ap (result_place error_floats _) r.5, field_close (paired a r.0 r.1) year day (Answer.Field v) (sym r.6) v refl)
 
 -- the same of the entry with a stored set, of the set that is read
-pub njerumoy_field_stored_distance : (κs : Lfts 6) (stored : Bor (List ℕ)) (height sin_phi cos_phi sin_lambda cos_lambda : Float) (year day : ℤ) (xyz errors : Bor (List Float)) (entry : Bor (List ℕ)) (years : Bor (List ℤ)) (place : Bor ℕ)
+pub njerumoy_field_stored_distance : (κs : Lfts 6) (stored : Bor (List ℕ)) (height sin_phi cos_phi sin_lambda cos_lambda : Float) (year day : ℤ) (xyz errors : MutBor (List Float)) (entry : MutBor (List ℕ)) (years : MutBor (List ℤ)) (place : MutBor ℕ)
     (xyz' errors' : List Float) (entry' : List ℕ) (years' : List ℤ) (place' : ℕ)
     → (let a : Dens κs stored_kinds.ps = (stored, (height, (sin_phi, (cos_phi, (sin_lambda, (cos_lambda, (year, (day, (xyz, (errors, (entry, (years, (place, tt))))))))))))) in
     stored_reads.Post κs a 0 (at_exit (ended_of 6 stored_kinds.ps stored_kinds.r) κs a (tt, (tt, (tt, (tt, (tt, (tt, (tt, (tt, (xyz', (errors', (entry', (years', (place', tt)))))))))))))))
@@ -217,7 +218,7 @@ njerumoy_field_stored_distance κs stored height sin_phi cos_phi sin_lambda cos_
     (r.0, v, r.2, c.0.1 ∙ ap (result_place field_floats _) r.3, c.0.2 ∙ ap (result_place error_floats _) r.3, field_close (with_set height sin_phi cos_phi sin_lambda cos_lambda r.0) year day (Answer.Field v) (sym r.4) v refl)
 
 -- the same of the entry with a stored set of either form
-pub njerumoy_field_stored_either_distance : (κs : Lfts 6) (stored : Bor (List ℕ)) (height sin_phi cos_phi sin_lambda cos_lambda : Float) (year day : ℤ) (xyz errors : Bor (List Float)) (entry : Bor (List ℕ)) (years : Bor (List ℤ)) (place : Bor ℕ)
+pub njerumoy_field_stored_either_distance : (κs : Lfts 6) (stored : Bor (List ℕ)) (height sin_phi cos_phi sin_lambda cos_lambda : Float) (year day : ℤ) (xyz errors : MutBor (List Float)) (entry : MutBor (List ℕ)) (years : MutBor (List ℤ)) (place : MutBor ℕ)
     (xyz' errors' : List Float) (entry' : List ℕ) (years' : List ℤ) (place' : ℕ)
     → (let a : Dens κs either_kinds.ps = (stored, (height, (sin_phi, (cos_phi, (sin_lambda, (cos_lambda, (year, (day, (xyz, (errors, (entry, (years, (place, tt))))))))))))) in
     either_reads.Post κs a 0 (at_exit (ended_of 6 either_kinds.ps either_kinds.r) κs a (tt, (tt, (tt, (tt, (tt, (tt, (tt, (tt, (xyz', (errors', (entry', (years', (place', tt)))))))))))))))
@@ -229,7 +230,7 @@ njerumoy_field_stored_either_distance κs stored height sin_phi cos_phi sin_lamb
 
 -- the same of the entry with a lent list, over its clauses, since its proof is by hand
 pub njerumoy_field_listed_distance : {M : Type 1} {𝓤 : Ura M} (𝓛 : Logic 𝓤) (mem : Memory → SProp 𝓤) (run : Routine → Fun 𝓤) (κs : Lfts 9) (height sin_phi cos_phi sin_lambda cos_lambda : Float) (year day epoch_year : ℤ)
-    (g h g_dot h_dot : Bor (List Float)) (records : Bor (List ErrorRecord)) (xyz errors : Bor (List Float)) (entry : Bor (List ℕ)) (years : Bor (List ℤ)) (xyz' errors' : List Float) (entry' : List ℕ) (years' : List ℤ)
+    (g h g_dot h_dot : Bor (List Float)) (records : Bor (List ErrorRecord)) (xyz errors : MutBor (List Float)) (entry : MutBor (List ℕ)) (years : MutBor (List ℤ)) (xyz' errors' : List Float) (entry' : List ℕ) (years' : List ℤ)
     → (let a : Args listed.signature κs = (height, (sin_phi, (cos_phi, (sin_lambda, (cos_lambda, (year, (day, (epoch_year, (g, (h, (g_dot, (h_dot, (records, (xyz, (errors, (entry, (years, tt))))))))))))))))) in
     ent 𝓤 ((listed.clauses 𝓛 mem run κs a).ensures tt 0 (at_exit listed.ended κs a (tt, (tt, (tt, (tt, (tt, (tt, (tt, (tt, (tt, (tt, (tt, (tt, (tt, (xyz', (errors', (entry', (years', tt)))))))))))))))))))
     (fact 𝓤 ((v : GeomagneticField) × (xyz' ≡ field_floats v) × (errors' ≡ error_floats v) × FieldClose (asked height sin_phi cos_phi sin_lambda cos_lambda epoch_year g.now h.now g_dot.now h_dot.now) (epoch_offset year day) v)))

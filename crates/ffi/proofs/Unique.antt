@@ -205,7 +205,7 @@ njerumoy_field_stored_either κs a x y u v p q =
     let place = same p.0.5 q.0.5 in
     (same p.0.0 q.0.0, λ i. (tt, (tt, (tt, (tt, (tt, (tt, (tt, (tt, (xyz i, (errors i, (entry i, (years i, (place i, tt))))))))))))))
 
-pub njerumoy_field_listed : OneAnswer field_listed_fn.ended (λ M 𝓤. field_listed_fn.clauses 𝓤)
+pub njerumoy_field_listed : OneAnswer field_listed_fn.ended (λ M 𝓤 𝓛. field_listed_fn.clauses 𝓛)
 njerumoy_field_listed M 𝓤 𝓛 mem run κs a g x y u v =
     both_say_first 𝓤 (λ p q.
     let xyz = same p.1 q.1 in
@@ -214,7 +214,7 @@ njerumoy_field_listed M 𝓤 𝓛 mem run κs a g x y u v =
     let years = same p.4 q.4 in
     (same p.0 q.0, λ i. (tt, (tt, (tt, (tt, (tt, (tt, (tt, (tt, (tt, (tt, (tt, (tt, (tt, (xyz i, (errors i, (entry i, (years i, tt)))))))))))))))))))
 
-pub njerumoy_declination_uncertainty_listed : OneAnswer declination_uncertainty_listed_fn.ended (λ M 𝓤. declination_uncertainty_listed_fn.clauses 𝓤)
+pub njerumoy_declination_uncertainty_listed : OneAnswer declination_uncertainty_listed_fn.ended (λ M 𝓤 𝓛. declination_uncertainty_listed_fn.clauses 𝓛)
 njerumoy_declination_uncertainty_listed M 𝓤 𝓛 mem run κs a g x y u v =
     both_say_first 𝓤 (λ p q.
     let uncertainty = same p.1 q.1 in

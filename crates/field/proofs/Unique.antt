@@ -1,10 +1,11 @@
 -- Every public contract leaves one result: each law is over what the kit makes of the function's `ensures`, a `Post`, or `clauses` where the proof is by hand.
 use mathlib.Core.Path.{refl}
 use Rattle.field.proofs.Answers.{field_answer_one}
-use Rattle.refusals.specs.OneResult.{OneResult}
+use Rattle.refusals.specs.OneResult.{OneResult, OneAnswer}
+use Rattle.refusals.proofs.Clauses.{three_say_first}
 use Rattle.field.proofs.field as field_fn
 use Rattle.field.proofs.field_with as field_with_fn
-use Rattle.field.proofs.listed.field_listed as field_listed_fn
+use Rattle.field.specs.contracts.listed.field_listed as field_listed_fn
 use Rattle.field.proofs.axes.turn as turn_fn
 use Rattle.field.proofs.place.check_place as check_place_fn
 
@@ -14,8 +15,8 @@ field κs a x y u v p q = (field_answer_one _ x y p.0 q.0, refl)
 pub field_with_lem : OneResult field_with_fn.Kinds.ps field_with_fn.Kinds.r field_with_fn.Reads.Post
 field_with_lem κs a x y u v p q = (field_answer_one _ x y p.0 q.0, refl)
 
-pub field_listed : OneResult field_listed_fn.Kinds.ps field_listed_fn.Kinds.r field_listed_fn.Reads.Post
-field_listed κs a x y u v p q = (field_answer_one _ x y p.0 q.0, refl)
+pub field_listed : OneAnswer field_listed_fn.ended (λ M 𝓤 𝓛. field_listed_fn.clauses 𝓛)
+field_listed M 𝓤 𝓛 mem run κs a g x y u v = three_say_first 𝓤 (λ p q. (field_answer_one _ x y p q, refl))
 
 pub turn : OneResult turn_fn.Kinds.ps turn_fn.Kinds.r turn_fn.Reads.Post
 turn κs a x y u v p q = (cc, refl)

@@ -1,7 +1,8 @@
 -- Every public contract leaves one result: each law is over what the kit makes of the function's `ensures`, a `Post`, or `clauses` where the proof is by hand.
 use mathlib.Core.Path.{refl, sym, ◌∙◌}
 use Rattle.strengths.proofs.StrengthLaws.{strength_one, zone_one, grid_one}
-use Rattle.refusals.specs.OneResult.{OneResult}
+use Rattle.refusals.specs.OneResult.{OneResult, OneAnswer}
+use Rattle.refusals.proofs.Clauses.{both_say_first}
 use Rattle.strengths.proofs.GeomagneticField.h as h_fn
 use Rattle.strengths.proofs.GeomagneticField.f as f_fn
 use Rattle.strengths.proofs.bare_record as bare_record_fn
@@ -11,7 +12,7 @@ use Rattle.strengths.proofs.GeomagneticField.inclination as inclination_fn
 use Rattle.strengths.proofs.GeomagneticField.declination_warning as declination_warning_fn
 use Rattle.strengths.proofs.GeomagneticField.declination_uncertainty as declination_uncertainty_fn
 use Rattle.strengths.proofs.GeomagneticField.uncertainty_with as uncertainty_with_fn
-use Rattle.strengths.proofs.GeomagneticField.declination_uncertainty_listed as declination_uncertainty_listed_fn
+use Rattle.strengths.specs.contracts.GeomagneticField.declination_uncertainty_listed as declination_uncertainty_listed_fn
 use Rattle.strengths.proofs.grid.grid_variation as grid_variation_fn
 
 pub h : OneResult h_fn.Kinds.ps h_fn.Kinds.r h_fn.Reads.Post
@@ -38,8 +39,8 @@ declination_uncertainty κs a x y u v p q = (strength_one _ x y p q, refl)
 pub uncertainty_with_lem : OneResult uncertainty_with_fn.Kinds.ps uncertainty_with_fn.Kinds.r uncertainty_with_fn.Reads.Post
 uncertainty_with_lem κs a x y u v p q = (strength_one _ x y p q, refl)
 
-pub declination_uncertainty_listed : OneResult declination_uncertainty_listed_fn.Kinds.ps declination_uncertainty_listed_fn.Kinds.r declination_uncertainty_listed_fn.Reads.Post
-declination_uncertainty_listed κs a x y u v p q = (strength_one _ x y p.0 q.0, refl)
+pub declination_uncertainty_listed : OneAnswer declination_uncertainty_listed_fn.ended (λ M 𝓤 𝓛. declination_uncertainty_listed_fn.clauses 𝓛)
+declination_uncertainty_listed M 𝓤 𝓛 mem run κs a g x y u v = both_say_first 𝓤 (λ p q. (strength_one _ x y p q, refl))
 
 pub grid_variation : OneResult grid_variation_fn.Kinds.ps grid_variation_fn.Kinds.r grid_variation_fn.Reads.Post
 grid_variation κs a x y u v p q = (grid_one _ x y p q, refl)

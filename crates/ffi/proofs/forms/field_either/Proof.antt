@@ -15,61 +15,47 @@ use Rattle.ffi.proofs.forms.field_either.Tie as tie
 abbrev zeros : ℕ → Lists
 zeros n = let z = replicate n (of_bits binary32 0) in lists_of z z z z
 
-slice-aggregate-field-by : tie.Need-slice-aggregate-field-by
-slice-aggregate-field-by c = search rules
+slice_aggregate-field_by : tie.Need-slice_bounds-field_by-end
+slice_aggregate-field_by c = search rules
 
-slice-aggregate-field-by-2 : tie.Need-slice-aggregate-field-by-2
-slice-aggregate-field-by-2 c = search rules
+slice_aggregate-field_by-2 : tie.Need-slice_bounds-field_by-end-then-stored-eq-LONGER_LENGTH
+slice_aggregate-field_by-2 c = search rules
 
-slice-aggregate-field-by-3 : tie.Need-slice-aggregate-field-by-3
-slice-aggregate-field-by-3 c = search rules
+slice_aggregate-field_by-3 : tie.Need-slice_bounds-field_by-end-then-stored-eq-LONGER_LENGTH-2
+slice_aggregate-field_by-3 c = search rules
 
-slice-aggregate-field-by-4 : tie.Need-slice-aggregate-field-by-4
-slice-aggregate-field-by-4 c = search rules
+slice_aggregate-field_by-4 : tie.Need-slice_bounds-field_by-end-then-stored-eq-LONGER_LENGTH-3
+slice_aggregate-field_by-4 c = search rules
 
-field-by-requires : tie.Need-field-by-requires
-field-by-requires c κs =
-    let o = c.before.before.before.before in
-    let s = o.before.before.args.stored.now in
-    form_fits s (zeros LONGER) LONGER longer_whole (refl, refl, refl, refl) (longer_form s o.if1.true)
+field_by-requires : tie.Need-field_by-requires
+field_by-requires c κs =
+    let s = c.args.stored.now in
+    form_fits s (zeros LONGER) LONGER longer_whole (refl, refl, refl, refl) (longer_form s c.if-stored-eq-LONGER_LENGTH.true)
 
-returns : tie.Need-returns
+returns : tie.Need-returns-then-stored-eq-LONGER_LENGTH
 returns c = search rules
 
-slice-aggregate-field-by-5 : tie.Need-slice-aggregate-field-by-5
-slice-aggregate-field-by-5 c = search rules
+slice_aggregate-field_by-5 : tie.Need-slice_bounds-field_by-end-2
+slice_aggregate-field_by-5 c = search rules
 
-slice-aggregate-field-by-6 : tie.Need-slice-aggregate-field-by-6
-slice-aggregate-field-by-6 c = search rules
+slice_aggregate-field_by-6 : tie.Need-slice_bounds-field_by-end-3
+slice_aggregate-field_by-6 c = search rules
 
-slice-aggregate-field-by-7 : tie.Need-slice-aggregate-field-by-7
-slice-aggregate-field-by-7 c = search rules
+slice_aggregate-field_by-7 : tie.Need-slice_bounds-field_by-end-4
+slice_aggregate-field_by-7 c = search rules
 
-slice-aggregate-field-by-8 : tie.Need-slice-aggregate-field-by-8
-slice-aggregate-field-by-8 c = search rules
+slice_aggregate-field_by-8 : tie.Need-slice_bounds-field_by-end-5
+slice_aggregate-field_by-8 c = search rules
 
-field-by-requires-2 : tie.Need-field-by-requires-2
-field-by-requires-2 c κs =
-    let o = c.before.before.before.before in
-    let s = o.before.before.args.stored.now in
-    form_fits s (zeros N_COEFF) N_COEFF ninety_whole (refl, refl, refl, refl) (shorter_form s o.if1.false)
+field_by-requires-2 : tie.Need-field_by-requires-2
+field_by-requires-2 c κs =
+    let s = c.args.stored.now in
+    form_fits s (zeros N_COEFF) N_COEFF ninety_whole (refl, refl, refl, refl) (shorter_form s c.if-stored-eq-LONGER_LENGTH.false)
 
-returns-2 : tie.Need-returns-2
+returns-2 : tie.Need-returns
 returns-2 c = search rules
 
 pub field_either_spec : {M : Type 1} → statement M
 field_either_spec =
     tie.close
-    (tie.spec
-    slice-aggregate-field-by
-    slice-aggregate-field-by-2
-    slice-aggregate-field-by-3
-    slice-aggregate-field-by-4
-    field-by-requires
-    returns
-    slice-aggregate-field-by-5
-    slice-aggregate-field-by-6
-    slice-aggregate-field-by-7
-    slice-aggregate-field-by-8
-    field-by-requires-2
-    returns-2)
+    (tie.spec slice_aggregate-field_by slice_aggregate-field_by-2 slice_aggregate-field_by-3 slice_aggregate-field_by-4 field_by-requires returns slice_aggregate-field_by-5 slice_aggregate-field_by-6 slice_aggregate-field_by-7 slice_aggregate-field_by-8 field_by-requires-2 returns-2)

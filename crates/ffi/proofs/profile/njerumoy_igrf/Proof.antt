@@ -14,37 +14,36 @@ use Rattle.ffi.proofs.profile.njerumoy_igrf.Statement.{statement}
 use Rattle.ffi.proofs.profile.njerumoy_igrf.Tie as tie
 
 -- what it is asked, and what the profile says of that and promises
-abbrev start : tie.After-igrf → tie.Start
+abbrev start : tie.After-igrf-answer → tie.Start
 start c = c.before.before.before.before.before.before.before
 
 abbrev question : tie.Start → Profile
 question s =
     let a = s.args in
-    profile (asked a.height a.sin_phi a.cos_phi a.sin_lambda a.cos_lambda a.epoch_year a.g.now a.h.now a.g_dot.now a.h_dot.now) a.second-epoch-year a.second_g.now a.second_h.now
+    profile (asked a.height a.sin_phi a.cos_phi a.sin_lambda a.cos_lambda a.epoch_year a.g.now a.h.now a.g_dot.now a.h_dot.now) a.second_epoch_year a.second_g.now a.second_h.now
 
 abbrev Near : tie.Start → Xyz → Type 0
-Near s v = IgrfClose (question s) (early s.args.year) (epoch_offset s.args.year s.args.day-of-year) v
+Near s v = IgrfClose (question s) (early s.args.year) (epoch_offset s.args.year s.args.day_of_year) v
 
-says : (c : tie.After-igrf) → said c.igrf.result ≡ igrf_says (question (start c)) (start c).args.year (start c).args.day-of-year
+says : (c : tie.After-igrf-answer) → said c.igrf-answer.result ≡ igrf_says (question (start c)) (start c).args.year (start c).args.day_of_year
 says c =
     let s = start c in
-    rw (to_z-of_z w32 s.args.year s.fits.year, to_z-of_z w32 s.args.day-of-year s.fits.day-of-year, to_z-of_z w32 s.args.epoch_year s.fits.epoch_year, to_z-of_z w32 s.args.second-epoch-year s.fits.second-epoch-year) at c.igrf.ensures.0
+    rw (to_z-of_z w32 s.args.year s.ranges.year, to_z-of_z w32 s.args.day_of_year s.ranges.day_of_year, to_z-of_z w32 s.args.epoch_year s.ranges.epoch_year, to_z-of_z w32 s.args.second_epoch_year s.ranges.second_epoch_year) at c.igrf-answer.ensures.0
 
 -- from what is said
-near : (c : tie.After-igrf) (v : Xyz) → c.igrf.result ≡ Answer.Components v → Near (start c) v
-near c v e = answer_close (question (start c)) (start c).args.year (start c).args.day-of-year c.igrf.result (says c) v e
+near : (c : tie.After-igrf-answer) (v : Xyz) → c.igrf-answer.result ≡ Answer.Components v → Near (start c) v
+near c v e = answer_close (question (start c)) (start c).args.year (start c).args.day_of_year c.igrf-answer.result (says c) v e
 
-igrf-requires : tie.Need-igrf-requires
+igrf-requires : tie.Need-igrf-answer-requires
 igrf-requires c κs = search rules
 
-tell-igrf-requires : tie.Need-tell-igrf-requires
-tell-igrf-requires c κs = search rules
+tell_igrf-requires : tie.Need-tell_igrf-requires
+tell_igrf-requires c κs = search rules
 
 returns : tie.Need-returns
 returns c =
-    let i = c.before.before.before.before in
-    let t = c.tell-igrf.ensures in
-    (rw (says i) at t, (igrf_where_zero i.igrf.result (Near (start i)) (near i) _ t.0 _ _ t.1, (refl, refl, refl, refl, refl, refl)))
+    let t = c.tell_igrf.ensures in
+    (rw (says c.before.before.before.before) at t, (igrf_where_zero c.igrf-answer.result (Near (start c.before.before.before.before)) (near c.before.before.before.before) _ t.0 _ _ t.1, (refl, refl, refl, refl, refl, refl)))
 
 pub njerumoy_igrf_spec : {M : Type 1} → statement M
-njerumoy_igrf_spec = tie.close (tie.spec igrf-requires tell-igrf-requires returns)
+njerumoy_igrf_spec = tie.close (tie.spec igrf-requires tell_igrf-requires returns)

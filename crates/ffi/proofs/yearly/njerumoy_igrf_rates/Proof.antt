@@ -15,40 +15,39 @@ use Rattle.ffi.proofs.yearly.njerumoy_igrf_rates.Statement.{statement}
 use Rattle.ffi.proofs.yearly.njerumoy_igrf_rates.Tie as tie
 
 -- what it is asked, and what the call promises of that
-abbrev start : tie.After-igrf-rates → tie.Start
+abbrev start : tie.After-igrf_rates-answer → tie.Start
 start c = c.before.before.before.before.before.before.before
 
 abbrev question : tie.Start → Profile
 question s =
     let a = s.args in
-    profile (asked a.height a.sin_phi a.cos_phi a.sin_lambda a.cos_lambda a.epoch_year a.g.now a.h.now a.g_dot.now a.h_dot.now) a.second-epoch-year a.second_g.now a.second_h.now
+    profile (asked a.height a.sin_phi a.cos_phi a.sin_lambda a.cos_lambda a.epoch_year a.g.now a.h.now a.g_dot.now a.h_dot.now) a.second_epoch_year a.second_g.now a.second_h.now
 
 abbrev Promise : tie.Start → YearlyRates → Type 0
 Promise s v = RateClose (question s) (early s.args.year) v.x v.y v.z × AllFinite v
 
-says : (c : tie.After-igrf-rates) → said c.igrf_rates.result ≡ igrf_rates_says (question (start c)) (start c).args.year (start c).args.day-of-year
+says : (c : tie.After-igrf_rates-answer) → said c.igrf_rates-answer.result ≡ igrf_rates_says (question (start c)) (start c).args.year (start c).args.day_of_year
 says c =
     let s = start c in
-    rw (to_z-of_z w32 s.args.year s.fits.year, to_z-of_z w32 s.args.day-of-year s.fits.day-of-year, to_z-of_z w32 s.args.epoch_year s.fits.epoch_year, to_z-of_z w32 s.args.second-epoch-year s.fits.second-epoch-year) at c.igrf_rates.ensures.0
+    rw (to_z-of_z w32 s.args.year s.ranges.year, to_z-of_z w32 s.args.day_of_year s.ranges.day_of_year, to_z-of_z w32 s.args.epoch_year s.ranges.epoch_year, to_z-of_z w32 s.args.second_epoch_year s.ranges.second_epoch_year) at c.igrf_rates-answer.ensures.0
 
 -- from what is said
-promised : (c : tie.After-igrf-rates) (v : YearlyRates) → c.igrf_rates.result ≡ Answer.Rates v → Promise (start c) v
+promised : (c : tie.After-igrf_rates-answer) (v : YearlyRates) → c.igrf_rates-answer.result ≡ Answer.Rates v → Promise (start c) v
 promised c v e =
     let a = (start c).args in
     let q = question (start c) in
-    (answer_close q a.year a.day-of-year c.igrf_rates.result (says c) v e, answer_finite q a.year a.day-of-year c.igrf_rates.result (says c) v e)
+    (answer_close q a.year a.day_of_year c.igrf_rates-answer.result (says c) v e, answer_finite q a.year a.day_of_year c.igrf_rates-answer.result (says c) v e)
 
-igrf-rates-requires : tie.Need-igrf-rates-requires
-igrf-rates-requires c κs = search rules
+igrf_rates-requires : tie.Need-igrf_rates-answer-requires
+igrf_rates-requires c κs = search rules
 
-tell-rates-requires : tie.Need-tell-rates-requires
-tell-rates-requires c κs = search rules
+tell_rates-requires : tie.Need-tell_rates-requires
+tell_rates-requires c κs = search rules
 
 returns : tie.Need-returns
 returns c =
-    let i = c.before.before.before.before in
-    let t = c.tell-rates.ensures in
-    (rw (says i) at t, (rates_where_zero i.igrf_rates.result (Promise (start i)) (promised i) _ t.0 _ _ t.1, (refl, refl, refl, refl, refl, refl)))
+    let t = c.tell_rates.ensures in
+    (rw (says c.before.before.before.before) at t, (rates_where_zero c.igrf_rates-answer.result (Promise (start c.before.before.before.before)) (promised c.before.before.before.before) _ t.0 _ _ t.1, (refl, refl, refl, refl, refl, refl)))
 
 pub njerumoy_igrf_rates_spec : {M : Type 1} → statement M
-njerumoy_igrf_rates_spec = tie.close (tie.spec igrf-rates-requires tell-rates-requires returns)
+njerumoy_igrf_rates_spec = tie.close (tie.spec igrf_rates-requires tell_rates-requires returns)
