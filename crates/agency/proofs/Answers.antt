@@ -13,13 +13,11 @@ use Rattle.refusals.specs.Paper.{Paper, answered, refused, paper, after, told}
 use Rattle.refusals.specs.declared.Refusal.{Refusal}
 use Rattle.refusals.specs.declared.Refusal.TheVariants.{Length}
 use Rattle.refusals.specs.declared.Verdict.{Verdict}
-use Rattle.refusals.specs.declared.Verdict.TheVariants as Verdict
 use Rattle.refusals.proofs.Laws.{no_answer, no_refusal}
 use Rattle.tables.specs.Degree.{N_COEFF}
 use Rattle.lists.specs.Lists.{long}
 use Rattle.text.specs.Lines.{lines}
 use Rattle.lists.specs.declared.ReadAnswer.{ReadAnswer}
-use Rattle.lists.specs.declared.ReadAnswer.TheVariants as ReadAnswer
 use Rattle.agency.specs.declared.entries.Entry.{Entry}
 use Rattle.lists.specs.Sets.{Lists, ModelSet, Ninety, afterwards, left, lists_of, said, set_verdict}
 use Rattle.agency.specs.Cof.{cof_says, columns, file_says, first, header_says, read_of, rows_say}

@@ -12,7 +12,6 @@ use lib.Ieee.{Float}
 use Rattle.refusals.specs.Paper.{Paper, answered, refused, paper, after, told}
 use Rattle.refusals.specs.declared.Refusal.{Refusal}
 use Rattle.refusals.specs.declared.Verdict.{Verdict}
-use Rattle.refusals.specs.declared.Verdict.TheVariants as Verdict
 use Rattle.tables.specs.Degree.{N_COEFF}
 use Rattle.text.specs.Lines.{lines}
 use Rattle.agency.specs.declared.entries.Entry.{Entry}

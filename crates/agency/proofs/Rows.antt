@@ -12,7 +12,6 @@ use Rattle.refusals.specs.Paper.{answered, check, paper}
 use Rattle.refusals.specs.declared.Refusal.{Refusal}
 use Rattle.refusals.specs.declared.Refusal.TheVariants.{Malformed, OutOfOrder}
 use Rattle.refusals.specs.declared.Verdict.{Verdict}
-use Rattle.refusals.specs.declared.Verdict.TheVariants as Verdict
 use Rattle.text.specs.Decimals.{Read, read, malformed, number_of, whole_of}
 use Rattle.text.specs.Reading.{next_word, two_words}
 use Rattle.text.specs.Lines.{lines}

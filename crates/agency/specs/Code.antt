@@ -2,28 +2,19 @@
 use Rattle.std.specs.Prelude.{◌≡◌, List, ℕ, ◌+◌, ◌≤◌, ◌<◌, ℤ, length, drop, Float}
 use Rattle.refusals.specs.Paper.{Paper, answered, refused, paper}
 use Rattle.refusals.specs.declared.Verdict.{Verdict}
-use Rattle.refusals.specs.declared.Verdict.TheVariants as Verdict
 use Rattle.text.specs.Decimals.{Read, read, malformed}
 use Rattle.text.specs.Lines.{lines}
 use Rattle.text.specs.Words.{first_word, words}
 use Rattle.text.specs.declared.FirstWord.{FirstWord}
 use Rattle.agency.specs.declared.entries.Entry.{Entry}
 use Rattle.agency.specs.declared.entries.EntryAnswer.{EntryAnswer}
-use Rattle.agency.specs.declared.entries.EntryAnswer.TheVariants as EntryAnswer
 use Rattle.agency.specs.declared.entries.WholeAt.{WholeAt}
-use Rattle.agency.specs.declared.entries.WholeAt.TheVariants as WholeAt
 use Rattle.agency.specs.declared.entries.NumberAt.{NumberAt}
-use Rattle.agency.specs.declared.entries.NumberAt.TheVariants as NumberAt
 use Rattle.agency.specs.declared.entries.WholesAt.{WholesAt}
-use Rattle.agency.specs.declared.entries.WholesAt.TheVariants as WholesAt
 use Rattle.agency.specs.declared.entries.NumbersAt.{NumbersAt}
-use Rattle.agency.specs.declared.entries.NumbersAt.TheVariants as NumbersAt
 use Rattle.agency.specs.declared.file.HeaderAnswer.{HeaderAnswer}
-use Rattle.agency.specs.declared.file.HeaderAnswer.TheVariants as HeaderAnswer
 use Rattle.agency.specs.declared.file.PlacedAnswer.{PlacedAnswer}
-use Rattle.agency.specs.declared.file.PlacedAnswer.TheVariants as PlacedAnswer
 use Rattle.agency.specs.declared.file.RowAnswer.{RowAnswer}
-use Rattle.agency.specs.declared.file.RowAnswer.TheVariants as RowAnswer
 use Rattle.lists.specs.Sets.{Lists, ModelSet}
 use Rattle.agency.specs.Cof.{columns}
 

@@ -3,7 +3,6 @@ use Rattle.std.specs.Prelude.{Bool, ◌&&◌, cond, List, [], ◌∷◌, map, �
 use Rattle.refusals.specs.Paper.{Paper, answered, paper, unless, after, told, check}
 use Rattle.refusals.specs.declared.Refusal.TheVariants.{Malformed, OutOfOrder}
 use Rattle.refusals.specs.declared.Verdict.{Verdict}
-use Rattle.refusals.specs.declared.Verdict.TheVariants as Verdict
 use Rattle.tables.specs.Degree.{N_COEFF}
 use Rattle.lists.specs.Sets.{Left, Lists, ModelSet, lists_of, read_into, set_verdict}
 use Rattle.text.specs.Decimals.{Read, read, malformed, whole_of}

@@ -17,7 +17,6 @@ use Rattle.exact.proofs.Sizes.{AtMost, between_size}
 use Rattle.refusals.specs.Paper.{answered, unless, after, told, check, both}
 use Rattle.refusals.specs.declared.Refusal.TheVariants.{Latitude, Longitude, DayOfYear, Length, Coefficient, Degree, OtherEpoch, Unusable, Angle}
 use Rattle.refusals.specs.declared.Verdict.{Verdict}
-use Rattle.refusals.specs.declared.Verdict.TheVariants as Verdict
 use Rattle.refusals.proofs.Never.{Never, Passes, never_unless, never_told, never_after, passes_check, passes_true, passes_both}
 use Rattle.models.specs.declared.epochs.EpochOffset.{EpochOffset}
 use Rattle.models.specs.declared.records.ErrorRecord.{ErrorRecord}

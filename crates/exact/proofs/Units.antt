@@ -6,7 +6,7 @@ use native.Mathlib.Omega.{arith}
 use mathlib.Core.Bool.{Bool, true, false, not, ◌&&◌, cond, beq}
 use lib.Dec.{T, ltb}
 use lib.Pow.{pow_pos}
-use lib.Ieee.{Float, nan, inf, fin, binary32, up, down, unlike, fits, neg, sum, round, add, sub, mul, div}
+use lib.Ieee.{Float, nan, inf, fin, binary32, up, down, unlike, fits, neg, round, add, sub, mul, div}
 use lib.Ieee.Exact.{HasValue}
 use lib.Ieee.Fits.{down_pos}
 use lib.Ieee.Scale.{finite, grid, round_same}

@@ -22,7 +22,6 @@ use Rattle.refusals.specs.declared.Refusal.{Refusal}
 use Rattle.refusals.specs.declared.Refusal.TheVariants.{DayOfYear, OtherEpoch, Unusable, NoErrorRecord, Angle, ZeroDivisor}
 use Rattle.refusals.specs.Paper.{Paper, answered, refused, paper, unless, after, told}
 use Rattle.refusals.specs.declared.Verdict.{Verdict}
-use Rattle.refusals.specs.declared.Verdict.TheVariants as Verdict
 use Rattle.refusals.proofs.Laws.{not_zero}
 use Rattle.refusals.proofs.Clauses.{says_first}
 use Rattle.models.specs.declared.errors.WmmErrorModel.{WmmErrorModel}

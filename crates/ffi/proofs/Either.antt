@@ -13,7 +13,6 @@ use Rattle.refusals.specs.Paper.{Paper, answered, refused, paper, after, told, b
 use Rattle.refusals.specs.declared.Refusal.{Refusal}
 use Rattle.refusals.specs.declared.Refusal.TheVariants.{Degree}
 use Rattle.refusals.specs.declared.Verdict.{Verdict}
-use Rattle.refusals.specs.declared.Verdict.TheVariants as Verdict
 use Rattle.refusals.proofs.Laws.{answered_one, no_answer, no_refusal}
 use Rattle.tables.specs.Degree.{N_COEFF, degree_of, entries}
 use Rattle.lists.specs.Lists.{Long, lengths_verdict}

@@ -13,7 +13,6 @@ use mir.ValLaws.{to_z-of_z}
 use Rattle.refusals.specs.Paper.{Paper, answered, refused, paper, unless, after, told}
 use Rattle.refusals.proofs.Laws.{passed, paper_one, no_answer, answered_one, told_answered, told_carry}
 use Rattle.refusals.specs.declared.Verdict.{Verdict}
-use Rattle.refusals.specs.declared.Verdict.TheVariants as Verdict
 use Rattle.refusals.specs.declared.Refusal.{Refusal}
 use Rattle.refusals.specs.declared.Refusal.TheVariants.{Latitude, Longitude, DayOfYear, OtherEpoch}
 use Rattle.models.specs.declared.epochs.EpochOffset.{EpochOffset}

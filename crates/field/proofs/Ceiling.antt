@@ -6,7 +6,7 @@ use native.Mathlib.Nat.{le_of_mul-le-mul_right, le_trans, mul-le-mul_right, zero
 use native.Mathlib.Omega.{arith}
 use mathlib.Core.Bool.{true, ◌&&◌}
 use lib.Dec.{T, lit≤}
-use lib.IntN.{ℤ, pos}
+use lib.IntN.{ℤ}
 use lib.Ieee.{Float, binary32, of_bits, of_int, round}
 use lib.Ieee.Positive.{num}
 use Rattle.exact.specs.Exact.{Exact, Size, inv_e, own, size}

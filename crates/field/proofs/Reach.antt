@@ -22,12 +22,11 @@ use Rattle.tables.specs.Degree.{N_MAX, place}
 use Rattle.tables.specs.Tables.{schmidt_at}
 use Rattle.tables.specs.Rule.{k_of}
 use Rattle.sums.specs.Arithmetic.{Arithmetic, plus_s, sizes, times_s}
-use Rattle.sums.specs.Recurrence.{Input, coefficient, lit, pole_x, pole_y, pole_z, total, x_sum, y_sum, z_sum}
+use Rattle.sums.specs.Recurrence.{Input, pole_x, pole_y, pole_z, total, x_sum, y_sum, z_sum}
 use Rattle.sums.proofs.Related.{Alike, Related, pole_x_related, pole_y_related, pole_z_related, x_sum_related, y_sum_related, z_sum_related}
 use Rattle.lists.specs.Lists.{main_cap, rate_cap}
 use Rattle.synthesis.specs.Sum.{ratio_ok}
-use Rattle.sums.specs.Paths.{POLE_ORDERS, at, between, five, path_x, path_z, placed, small_sine}
-use Rattle.synthesis.proofs.Demand as Sum
+use Rattle.sums.specs.Paths.{POLE_ORDERS, five, path_x, path_z, placed, small_sine}
 use Rattle.field.specs.Turn.{cos_turn, sin_turn, turn_x, turn_z}
 use Rattle.field.specs.There.{there, there_x, there_y, there_z}
 use Rattle.field.specs.Field.{Asked}

@@ -18,7 +18,7 @@ use Rattle.geocentric.specs.Geo.{cos_of, height_ok, latitude_ok, ratio_of, sin_o
 use Rattle.geocentric.proofs.Laws.{latitude_leaf, never_10, never_9}
 use Rattle.sums.specs.Arithmetic.{Arithmetic, rounded, sizes, unrounded}
 use Rattle.sums.specs.Recurrence.{Input}
-use Rattle.sums.specs.Paths.{path_x, path_y, path_z, placed, small_sine}
+use Rattle.sums.specs.Paths.{path_x, path_z, placed, small_sine}
 use Rattle.sums.proofs.Keeps.{Divides, Keeps, rounded_keeps}
 use Rattle.sums.proofs.Terms.{Ok, ang_s, coeff_a, leg_s, pow_s}
 use Rattle.sums.proofs.Near.{acc_a, east_a, path_x_near, path_y_near, path_z_near, sum_a}

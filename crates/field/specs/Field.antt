@@ -7,7 +7,6 @@ use Rattle.exact.specs.Tests.{circle}
 use Rattle.exact.specs.Within.{Within}
 use Rattle.refusals.specs.Paper.{Paper, answered, paper, unless, after, told, check}
 use Rattle.refusals.specs.declared.Verdict.{Verdict}
-use Rattle.refusals.specs.declared.Verdict.TheVariants as Verdict
 use Rattle.refusals.specs.declared.Refusal.{Refusal}
 use Rattle.refusals.specs.declared.Refusal.TheVariants.{Height, Latitude, Longitude, OtherEpoch}
 use Rattle.models.specs.declared.epochs.EpochOffset.{EpochOffset}

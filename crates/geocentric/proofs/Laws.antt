@@ -4,7 +4,7 @@ use native.Mathlib.Omega.{arith}
 use mathlib.Core.Bool.{false, not}
 use lib.IntN.{negsuc}
 use lib.Dec.{T}
-use lib.Ieee.{Float, fin, binary32, of_bits, neg, mul, le, lt}
+use lib.Ieee.{Float, fin, binary32, of_bits, mul, le, lt}
 use lib.Ieee.Fits.{and_l, and_r, and_i}
 use lib.Ieee.Positive.{num, den, positive, cross→le}
 use Rattle.exact.specs.Tests.{abs, between, circle}

@@ -2,23 +2,21 @@
 use mathlib.Core.Path.{◌≡◌, refl, sym, ap, ◌∙◌}
 use mathlib.Core.Bool.{Bool, true, false, cond}
 use lib.Dec.{T}
-use lib.IntN.{ℤ}
 use lib.Ieee.{Float}
 use lib.Ieee.Bits.{is_true}
 use Rattle.exact.specs.Tests.{circle}
-use Rattle.refusals.specs.Paper.{Paper, answered, paper, told}
+use Rattle.refusals.specs.Paper.{Paper, answered, paper}
 use Rattle.refusals.specs.declared.Refusal.{Refusal}
 use Rattle.refusals.specs.declared.Verdict.{Verdict}
-use Rattle.refusals.specs.declared.Verdict.TheVariants as Verdict
 use Rattle.refusals.proofs.Laws.{answered_one, no_answer}
-use Rattle.lists.specs.Lists.{Long, lengths_verdict}
+use Rattle.lists.specs.Lists.{Long}
 use Rattle.lists.proofs.Checked.{long_pass}
 use Rattle.models.specs.declared.epochs.EpochOffset.{EpochOffset}
 use Rattle.geocentric.specs.declared.Geocentric.{Geocentric}
 use Rattle.geocentric.specs.Geo.{geocentric_of, height_ok, latitude_ok, ratio_of, ratio_to}
 use Rattle.geocentric.proofs.Laws.{never_10, never_9}
 use Rattle.synthesis.specs.declared.Xyz.{Xyz}
-use Rattle.synthesis.specs.Sum.{Lent, lent, numbers_verdict, offset_ok, ratio_ok, summed_says, uncapped_says, value_of}
+use Rattle.synthesis.specs.Sum.{Lent, lent, numbers_verdict, offset_ok, ratio_ok, uncapped_says, value_of}
 use Rattle.lists.specs.Profile.{forecast_verdict, pair_verdict}
 use Rattle.lists.proofs.OfProfile.{forecast_listed, pair_listed}
 use Rattle.igrf.specs.Igrf.{Profile, chosen, day_shows, fifths, found_by, lists_found, mixed, years_found}

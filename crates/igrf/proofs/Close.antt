@@ -6,7 +6,6 @@ use Prim.Native.Nat.{ℕ, ◌-◌}
 use lib.Dec.{T}
 use lib.ListN.{length, get_or}
 use lib.Ieee.{Float, add, div, neg, of_bits, round, sub, sum}
-use Rattle.exact.specs.Exact.{size}
 use Rattle.exact.specs.Tests.{capped, circle}
 use Rattle.exact.specs.Within.{Within}
 use Rattle.exact.proofs.Ranks.{Nr}

@@ -1,23 +1,21 @@
 -- The ways to an answer of the profile's entry, what an answer says of what is asked, and demand 3 for it.
 use mathlib.Core.Path.{◌≡◌, refl, sym, ap, subst, ◌∙◌}
 use mathlib.Core.Bool.{Bool, true, false}
-use Prim.Native.Nat.{ℕ}
 use native.Mathlib.Omega.{arith}
 use borrow.Author.Tests.{le-ltb, ltb-false}
 use lib.Dec.{T}
 use lib.IntN.{ℤ, pos, negsuc}
 use lib.Signed.{lt_z}
 use Rattle.exact.specs.Tests.{circle}
-use Rattle.refusals.specs.Paper.{Paper, after, answered, paper, refused, told, unless}
+use Rattle.refusals.specs.Paper.{Paper, after, answered, paper, refused, unless}
 use Rattle.refusals.specs.declared.Refusal.{Refusal}
 use Rattle.refusals.specs.declared.Refusal.TheVariants.{DayOfYear, Latitude, Longitude, OtherEpoch}
 use Rattle.refusals.specs.declared.Verdict.{Verdict}
-use Rattle.refusals.specs.declared.Verdict.TheVariants as Verdict
 use Rattle.refusals.proofs.Laws.{answered_one, check_accepted, no_answer, no_refusal, paper_one, told_answered}
 use Rattle.models.specs.declared.epochs.EpochOffset.{EpochOffset}
 use Rattle.models.specs.Epochs.{IGRF_FIRST, day_exists, day_from, days_from, epoch_offset, epoch_year_of, igrf_day, known_epoch, same_year, served_from, wrong_day}
 use Rattle.models.proofs.Years.{same_year_lem, years_served}
-use Rattle.models.specs.Dated.{Dated, dated_from}
+use Rattle.models.specs.Dated.{dated_from}
 use Rattle.lists.proofs.Checked.{Listed, holds}
 use Rattle.lists.proofs.OfProfile.{forecast_listed, pair_listed}
 use Rattle.geocentric.specs.Geo.{height_ok, latitude_ok}

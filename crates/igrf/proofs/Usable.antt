@@ -1,15 +1,14 @@
 -- X, Y and Z that the profile answers with can be used: no strength of them ends in 12. Assumes nothing.
-use mathlib.Core.Path.{◌≡◌, refl, sym, ap, subst, ◌∙◌}
+use mathlib.Core.Path.{◌≡◌, refl, subst}
 use mathlib.Core.Bool.{Bool, true, false}
 use lib.IntN.{ℤ}
 use lib.Ieee.{Float}
 use Rattle.refusals.specs.Paper.{answered}
 use Rattle.models.specs.declared.epochs.EpochOffset.{EpochOffset}
-use Rattle.models.specs.declared.errors.WmmErrorModel.{WmmErrorModel}
 use Rattle.models.specs.Epochs.{epoch_offset}
 use Rattle.synthesis.specs.declared.Xyz.{Xyz}
 use Rattle.strengths.specs.Strengths.{bare, h_of, strength_says, usable, zone_of, zone_says}
-use Rattle.field.specs.Field.{record_of, strengths_of}
+use Rattle.field.specs.Field.{strengths_of}
 use Rattle.field.proofs.Ceiling.{record_usable}
 use Rattle.igrf.specs.Igrf.{Profile, chosen, early, igrf_says}
 use Rattle.igrf.proofs.Close.{early_usable}

@@ -10,7 +10,6 @@ use mir.Syntax.{w32}
 use mir.Val.{SFits, of_z}
 use Rattle.refusals.specs.declared.Refusal.TheVariants.{OtherEpoch}
 use Rattle.refusals.specs.declared.Verdict.{Verdict}
-use Rattle.refusals.specs.declared.Verdict.TheVariants as Verdict
 use Rattle.models.specs.Epochs.{same_year}
 use Rattle.models.proofs.Years.{bits_same, same_year_lem, year_same}
 use Rattle.igrf.specs.Igrf.{years_found}

@@ -7,7 +7,6 @@ use Rattle.exact.specs.Within.{Within}
 use Rattle.refusals.specs.Paper.{Paper, answered, paper, after, told, check}
 use Rattle.refusals.specs.declared.Refusal.TheVariants.{OtherEpoch}
 use Rattle.refusals.specs.declared.Verdict.{Verdict}
-use Rattle.refusals.specs.declared.Verdict.TheVariants as Verdict
 use Rattle.models.specs.declared.epochs.EpochOffset.{EpochOffset}
 use Rattle.models.specs.Epochs.{EPOCH_YEARS, igrf_day, same_year}
 use Rattle.tables.specs.Degree.{degree_of}

@@ -20,7 +20,6 @@ use Rattle.refusals.specs.Paper.{check}
 use Rattle.refusals.specs.declared.Refusal.{Refusal}
 use Rattle.refusals.specs.declared.Refusal.TheVariants.{Length, Coefficient, Degree}
 use Rattle.refusals.specs.declared.Verdict.{Verdict}
-use Rattle.refusals.specs.declared.Verdict.TheVariants as Verdict
 use Rattle.refusals.proofs.Laws.{check_accepted, both_accepted}
 use Rattle.tables.proofs.Degrees.{of_long, of_short}
 use Rattle.tables.specs.Degree.{N_COEFF, N_MAX, WMM_MAX, degree_of, entries}

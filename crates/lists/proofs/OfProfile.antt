@@ -1,7 +1,7 @@
 -- The ways to a verdict in the IGRF profile. Assumes nothing.
-use mathlib.Core.Path.{◌≡◌, refl, sym, ◌∙◌}
+use mathlib.Core.Path.{◌≡◌, refl, ◌∙◌}
 use mathlib.Core.Bool.{Bool, true, false, ◌&&◌}
-use mathlib.Core.List.{List, [], ◌∷◌}
+use mathlib.Core.List.{List}
 use Prim.Native.Nat.{ℕ, ◌+◌, ◌<◌}
 use native.Mathlib.Numerals.{add-one}
 use lib.ListN.{length, get_or, drop}
@@ -10,7 +10,6 @@ use lib.Ieee.{Float, nan, binary32, eq, of_bits}
 use Rattle.refusals.specs.declared.Refusal.{Refusal}
 use Rattle.refusals.specs.declared.Refusal.TheVariants.{RateAboveEight}
 use Rattle.refusals.specs.declared.Verdict.{Verdict}
-use Rattle.refusals.specs.declared.Verdict.TheVariants as Verdict
 use Rattle.refusals.proofs.Laws.{both_accepted, check_accepted}
 use Rattle.exact.specs.Tests.{all_capped}
 use lib.Dec.{T}

@@ -6,7 +6,6 @@ use Rattle.refusals.specs.Paper.{Paper, answered, refused, paper, after}
 use Rattle.refusals.specs.declared.Refusal.{Refusal}
 use Rattle.refusals.proofs.Laws.{answered_one, no_answer, no_refusal, paper_one}
 use Rattle.lists.specs.declared.ReadAnswer.{ReadAnswer}
-use Rattle.lists.specs.declared.ReadAnswer.TheVariants as ReadAnswer
 use Rattle.lists.specs.Lists.{long}
 use Rattle.lists.specs.Sets.{Left, Lists, ModelSet, afterwards, left, read_into, said}
 

@@ -6,7 +6,6 @@ use Rattle.exact.specs.Tests.{all_between, capped}
 use Rattle.refusals.specs.Paper.{both, check}
 use Rattle.refusals.specs.declared.Refusal.TheVariants.{Length, Coefficient, Degree}
 use Rattle.refusals.specs.declared.Verdict.{Verdict}
-use Rattle.refusals.specs.declared.Verdict.TheVariants as Verdict
 use Rattle.tables.specs.Degree.{N_COEFF, N_MAX, WMM_MAX, degree_of, entries}
 
 -- caps of 65,536 nT, and of 4,096 nT a year

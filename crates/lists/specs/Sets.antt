@@ -5,7 +5,6 @@ use Rattle.refusals.specs.declared.Refusal.TheVariants.{Length}
 use Rattle.refusals.specs.declared.Verdict.{Verdict}
 use Rattle.tables.specs.Degree.{N_COEFF}
 use Rattle.lists.specs.declared.ReadAnswer.{ReadAnswer}
-use Rattle.lists.specs.declared.ReadAnswer.TheVariants as ReadAnswer
 use Rattle.lists.specs.Lists.{caps_verdict, long}
 
 -- the four lists

@@ -1,6 +1,6 @@
 -- No rate is infinite, and none is a NaN. In units of 2 ^ -149: a component is at most 3/2 of the H or F that it is divided by, that divisor is at least 2 ^ 74 units, and the rates of X, Y and Z
 -- stay far below what it would take. Assumes nothing.
-use mathlib.Core.Path.{◌≡◌, refl, sym}
+use mathlib.Core.Path.{◌≡◌, sym}
 use mathlib.Core.Bool.{false}
 use Prim.Native.Nat.{ℕ, ◌+◌, ◌*◌, ◌^◌, ◌≤◌, ◌<◌}
 use mathlib.Core.Logic.{⊎_elim}

@@ -1,38 +1,29 @@
 -- What every answer of the rates has: no rate is infinite; and 21 is due exactly where H is zero, since no other divisor is zero then. Assumes nothing.
 use mathlib.Core.Path.{◌≡◌, refl, sym, ap, ◌∙◌, subst}
 use mathlib.Core.Bool.{Bool, true, false, ◌||◌}
-use Prim.Native.Nat.{ℕ, zero, suc, ◌+◌, ◌*◌, ◌^◌, ◌≤◌, ◌<◌}
+use Prim.Native.Nat.{ℕ, ◌+◌, ◌*◌, ◌^◌, ◌≤◌, ◌<◌}
 use native.Mathlib.Nat.{le_of_eq, le_trans, lt_of_lt_of_le, mul-le-mul_right, mul-one}
 use lib.Dec.{T, lit≤, lit<}
 use lib.IntN.{ℤ}
-use lib.Ieee.{Float, binary32, fits, of_bits, of_int, eq, mul, round}
-use lib.Ieee.Fits.{add-fits, sub-fits, div-fits, cond-fits}
+use lib.Ieee.{Float, binary32, fits, of_bits, eq, mul}
 use lib.Ieee.Positive.{positive, positive_of_value}
-use lib.Ieee.Scale.{finite}
 use Rattle.exact.specs.Exact.{own}
 use Rattle.exact.proofs.Ranks.{Leaf}
 use Rattle.exact.proofs.Near.{finite_is}
 use Rattle.exact.proofs.Units.{ONE, In, in_most, in_units_of, one_number}
 use Rattle.refusals.specs.Paper.{answered}
-use Rattle.models.specs.declared.epochs.EpochOffset.{EpochOffset}
 use Rattle.models.specs.Epochs.{epoch_offset, epoch_year_of}
 use Rattle.models.specs.Errors.{error_says}
-use Rattle.sums.specs.Arithmetic.{rounded}
-use Rattle.sums.specs.Paths.{small_sine}
-use Rattle.sums.specs.Recurrence.{Input, lit, pole_y, total}
-use Rattle.synthesis.specs.Sum.{inputs}
 use Rattle.synthesis.specs.declared.Xyz.{Xyz}
 use Rattle.strengths.specs.declared.GeomagneticField.{GeomagneticField}
 use Rattle.strengths.specs.Strengths.{f_of, h_of, usable}
 use Rattle.strengths.proofs.StrengthSizes.{components, f_most, h_most}
-use Rattle.field.specs.Field.{Asked, field_x, field_y, field_z, field_says, handed, record_of, strengths_of}
-use Rattle.field.specs.Turn.{turn_x, turn_z}
+use Rattle.field.specs.Field.{Asked, field_says, record_of, strengths_of}
 use Rattle.field.proofs.Ceiling.{field_usable}
-use Rattle.field.proofs.Laws.{close_x, close_y, close_z}
 use Rattle.rates.specs.declared.YearlyRates.{YearlyRates}
 use Rattle.rates.specs.declared.RatesAnswer.{RatesAnswer}
 use Rattle.rates.specs.declared.RatesAnswer.TheVariants as Answer
-use Rattle.field.specs.Rated.{component_rates, no_time, rated}
+use Rattle.field.specs.Rated.{component_rates}
 use Rattle.rates.specs.Rates.{AllFinite, rates_of, rates_says, said, zero_divisor}
 use Rattle.rates.proofs.Rated.{of_field, rated_accepted, rated_listed}
 use Rattle.rates.proofs.Answers.{behind_answer}

@@ -1,12 +1,11 @@
 -- The ways to an answer of the rates in the IGRF profile, that its X, Y and Z are close to the exact rates, and that no rate is infinite. Assumes nothing.
-use mathlib.Core.Path.{◌≡◌, refl, sym, ap, subst, ◌∙◌}
+use mathlib.Core.Path.{◌≡◌, sym, ap, subst, ◌∙◌}
 use mathlib.Core.Bool.{Bool, true, false}
 use Prim.Native.Nat.{ℕ}
 use lib.ListN.{length}
 use lib.IntN.{ℤ}
 use lib.Dec.{T}
 use lib.Ieee.{binary32, eq, fits, of_bits}
-use Rattle.exact.specs.Exact.{size}
 use Rattle.refusals.specs.Paper.{Paper, after, answered, paper}
 use Rattle.refusals.specs.declared.Refusal.{Refusal}
 use Rattle.refusals.specs.declared.Refusal.TheVariants.{ZeroDivisor}
@@ -24,7 +23,7 @@ use Rattle.synthesis.specs.declared.Xyz.{Xyz}
 use Rattle.synthesis.proofs.Demand.{main_at}
 use Rattle.strengths.specs.declared.GeomagneticField.{GeomagneticField}
 use Rattle.strengths.specs.Strengths.{bare, h_of}
-use Rattle.field.specs.Field.{Asked, strengths_of}
+use Rattle.field.specs.Field.{strengths_of}
 use Rattle.field.specs.Rated.{component_rates, no_time, rated}
 use Rattle.field.proofs.Rated.{rates_accepted, rates_listed}
 use Rattle.field.proofs.There.{there_x_related, there_y_related, there_z_related}

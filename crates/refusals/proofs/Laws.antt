@@ -11,9 +11,7 @@ use lib.Ieee.{Float, nan}
 use denote.Enum.Declared.{tag_of}
 use Rattle.refusals.specs.declared.Day.{Day}
 use Rattle.refusals.specs.declared.Refusal.{Refusal}
-use Rattle.refusals.specs.declared.Refusal.TheVariants as Refusal
 use Rattle.refusals.specs.declared.Verdict.{Verdict}
-use Rattle.refusals.specs.declared.Verdict.TheVariants as Verdict
 use Rattle.refusals.specs.Paper.{Line, carries, line, Paper, answered, refused, paper, unless, told, check, both}
 use Rattle.refusals.specs.contracts.Refusal.{the_type}
 

@@ -1,9 +1,7 @@
 -- The paper's number and values of every answer. Document 01, "Refusal numbers", and document 02. Definitions only.
 use Rattle.std.specs.Prelude.{Bool, true, false, List, [], ◌∷◌, ℕ, ℤ, pos, Float}
 use Rattle.refusals.specs.declared.Refusal.{Refusal}
-use Rattle.refusals.specs.declared.Refusal.TheVariants as Refusal
 use Rattle.refusals.specs.declared.Verdict.{Verdict}
-use Rattle.refusals.specs.declared.Verdict.TheVariants as Verdict
 
 -- a line of the documents' table: a refusal's number, the floats and the whole numbers that it carries
 pub record Line : Type 0 where

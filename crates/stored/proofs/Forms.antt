@@ -7,15 +7,14 @@ use native.Mathlib.Omega.{arith}
 use Rattle.refusals.specs.Paper.{answered, both, paper}
 use Rattle.refusals.specs.declared.Refusal.TheVariants.{WrongLength}
 use Rattle.refusals.specs.declared.Verdict.{Verdict}
-use Rattle.refusals.specs.declared.Verdict.TheVariants as Verdict
 use Rattle.refusals.proofs.Laws.{both_accepted, told_answered}
 use Rattle.tables.specs.Degree.{N_COEFF}
 use Rattle.tables.proofs.Degrees.{of_short}
-use Rattle.lists.specs.Lists.{lengths_verdict, long}
+use Rattle.lists.specs.Lists.{long}
 use Rattle.lists.specs.Sets.{Lists, ModelSet, left, set_verdict}
 use Rattle.lists.proofs.Checked.{each_long, long_pass}
 use Rattle.stored.specs.Layout.{LONGER, YEAR, list_length}
-use Rattle.stored.specs.Stored.{field_verdict, fields_verdict, frame_of, frame_verdict, read_either_of, read_of, set_in, set_of, stored_says, stored_verdict, verdict_of}
+use Rattle.stored.specs.Stored.{field_verdict, fields_verdict, frame_of, frame_verdict, read_either_of, read_of, set_in, stored_says, stored_verdict, verdict_of}
 use Rattle.stored.proofs.Frame.{field_of_lem, other_length}
 use Rattle.stored.proofs.Answers.{either_on, form_good, form_of, ninety}
 

@@ -13,7 +13,6 @@ use Rattle.refusals.specs.Paper.{both, check}
 use Rattle.refusals.specs.declared.Refusal.{Refusal}
 use Rattle.refusals.specs.declared.Refusal.TheVariants.{WrongTag, WrongLength, WrongEnd}
 use Rattle.refusals.specs.declared.Verdict.{Verdict}
-use Rattle.refusals.specs.declared.Verdict.TheVariants as Verdict
 use Rattle.refusals.proofs.Laws.{check_accepted, both_accepted}
 use Rattle.stored.specs.Layout.{HEAD, extent, field_of, fields_of, low_first, number}
 use Rattle.stored.specs.Stored.{field_verdict, fields_verdict}

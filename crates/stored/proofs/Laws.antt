@@ -17,7 +17,6 @@ use Rattle.exact.specs.Tests.{all_capped}
 use Rattle.refusals.specs.Paper.{answered, paper, unless, told, both}
 use Rattle.refusals.specs.declared.Refusal.TheVariants.{Length, NoRoom}
 use Rattle.refusals.specs.declared.Verdict.{Verdict}
-use Rattle.refusals.specs.declared.Verdict.TheVariants as Verdict
 use Rattle.refusals.proofs.Laws.{told_answered, answered_one, both_accepted, check_accepted, no_answer}
 use Rattle.tables.specs.Degree.{N_COEFF, degree_of, entries}
 use Rattle.tables.proofs.Degrees.{of_short}

@@ -4,7 +4,6 @@ use mathlib.Core.List.{[], ◌∷◌}
 use lib.Ieee.{binary32, of_bits, to_bits}
 use Rattle.refusals.specs.declared.Refusal.TheVariants.{WrongTag, WrongLength, WrongEnd}
 use Rattle.refusals.specs.declared.Verdict.{Verdict}
-use Rattle.refusals.specs.declared.Verdict.TheVariants as Verdict
 use Rattle.tables.specs.Degree.{N_COEFF}
 use Rattle.stored.specs.Layout.{LONGER, STORED, bytes_of, content_at, field_at, low_first, number, stored_length}
 use Rattle.stored.specs.Stored.{entries_in, fields_verdict, frame_of, frame_verdict}

@@ -1,5 +1,5 @@
 -- The ways to the writers' answers, and the five runs of stores. Assumes nothing.
-use mathlib.Core.Path.{◌≡◌, refl, sym, ap, ◌∙◌}
+use mathlib.Core.Path.{◌≡◌, sym, ap, ◌∙◌}
 use mathlib.Core.Bool.{Bool, true, false, not}
 use mathlib.Core.List.{List, [], ◌∷◌, ◌++◌}
 use Prim.Native.Nat.{ℕ, ◌+◌, ◌*◌, ◌≤◌, ◌<◌}
@@ -12,11 +12,10 @@ use Rattle.refusals.specs.Paper.{both}
 use Rattle.refusals.specs.declared.Refusal.{Refusal}
 use Rattle.refusals.specs.declared.Refusal.TheVariants.{Length, NoRoom}
 use Rattle.refusals.specs.declared.Verdict.{Verdict}
-use Rattle.refusals.specs.declared.Verdict.TheVariants as Verdict
 use Rattle.tables.specs.Degree.{N_COEFF}
 use Rattle.lists.specs.Lists.{lengths_verdict, lists_verdict, long, ninety_verdict}
 use Rattle.lists.specs.Sets.{Lists, set_verdict}
-use Rattle.stored.specs.Layout.{STORED, YEAR, bytes_of, contents_of, extent, field_of, fields_of, low_first, stored_length}
+use Rattle.stored.specs.Layout.{YEAR, bytes_of, contents_of, extent, field_of, fields_of, low_first, stored_length}
 use Rattle.stored.specs.Stored.{Each, Written, room_verdict, storable, stored_of, write_either_of, write_either_verdict, write_of, write_verdict, written, wrote}
 use Rattle.stored.proofs.Bytes.{length_low}
 use Rattle.stored.proofs.Floats.{list_long}

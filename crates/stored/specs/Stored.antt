@@ -3,7 +3,6 @@ use Rattle.std.specs.Prelude.{◌≡◌, Bool, false, cond, ◌&&◌, List, [], 
 use Rattle.refusals.specs.Paper.{Paper, answered, told, check, both}
 use Rattle.refusals.specs.declared.Refusal.TheVariants.{WrongTag, WrongLength, WrongEnd, NoRoom, Degree}
 use Rattle.refusals.specs.declared.Verdict.{Verdict}
-use Rattle.refusals.specs.declared.Verdict.TheVariants as Verdict
 use Rattle.tables.specs.Degree.{N_COEFF}
 use Rattle.lists.specs.Lists.{lengths_verdict, lists_verdict, ninety_verdict}
 use Rattle.lists.specs.Sets.{Left, Lists, ModelSet, afterwards, lists_of, read_into, set_verdict}

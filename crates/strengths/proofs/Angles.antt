@@ -18,7 +18,6 @@ use Rattle.direction.specs.Direction.{direction_of}
 use Rattle.direction.proofs.Laws.{said_points}
 use Rattle.strengths.specs.declared.GeomagneticField.{GeomagneticField}
 use Rattle.strengths.specs.declared.StrengthAnswer.{StrengthAnswer}
-use Rattle.strengths.specs.declared.StrengthAnswer.TheVariants as Strength
 use Rattle.strengths.specs.Strengths.{max_component, usable, h_of, strength_said, strength_says}
 use Rattle.strengths.specs.Angles.{declination_says, declination_of, inclination_of, AngleOf}
 use Rattle.strengths.proofs.StrengthSizes.{h_finite, h_clear, component_finite, components_finite}

@@ -13,7 +13,6 @@ use Rattle.refusals.specs.Paper.{Paper, answered, paper, told}
 use Rattle.refusals.proofs.Laws.{both_accepted, paper_one, no_answer, answered_one, told_answered}
 use Rattle.refusals.specs.declared.Refusal.{Refusal}
 use Rattle.refusals.specs.declared.Verdict.{Verdict}
-use Rattle.refusals.specs.declared.Verdict.TheVariants as Verdict
 use Rattle.lists.specs.Lists.{Long, lengths_verdict, lists_verdict}
 use Rattle.lists.proofs.Checked.{listed}
 use Rattle.synthesis.proofs.NumberChecks.{numbered}

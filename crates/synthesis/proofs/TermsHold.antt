@@ -5,7 +5,7 @@ use mathlib.Core.List.{List, []}
 use Prim.Native.Nat.{ℕ, ◌+◌, ◌*◌, ◌<◌, ◌≤◌}
 use native.Mathlib.Nat.{mul-le-mul}
 use native.Mathlib.Omega.{arith}
-use lib.ListN.{get_or, length, replicate, get_or-replicate}
+use lib.ListN.{length, replicate, get_or-replicate}
 use lib.Ieee.{Float, binary32, of_bits}
 use Rattle.tables.specs.Degree.{M_LEN, N_LEGENDRE, N_MAX, WMM_MAX, place}
 use Rattle.synthesis.specs.declared.Xyz.{Xyz}

@@ -8,7 +8,6 @@ use Rattle.exact.specs.Within.{Within}
 use Rattle.refusals.specs.Paper.{Paper, answered, paper, told, check}
 use Rattle.refusals.specs.declared.Refusal.TheVariants.{Longitude, Colatitude, Ratio, Offset}
 use Rattle.refusals.specs.declared.Verdict.{Verdict}
-use Rattle.refusals.specs.declared.Verdict.TheVariants as Verdict
 use Rattle.lists.specs.Lists.{lengths_verdict, lists_verdict, main_cap, rate_cap}
 use Rattle.tables.specs.Degree.{degree_of}
 use Rattle.sums.specs.Arithmetic.{Arithmetic, rounded, unrounded, sizes}

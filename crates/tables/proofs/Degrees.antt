@@ -3,7 +3,6 @@ use mathlib.Core.Path.{◌≡◌, refl}
 use mathlib.Core.Bool.{Bool, true, false, cond}
 use Prim.Native.Nat.{ℕ, ◌≤◌}
 use lib.Dec.{eqb, lit≤}
-use borrow.Author.Tests.{eqb-true}
 use Rattle.tables.specs.Degree.{N_MAX, WMM_MAX, degree_of, entries}
 
 -- it lies from 12 to 13

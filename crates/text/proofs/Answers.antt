@@ -7,11 +7,8 @@ use lib.Ieee.{Float}
 use Rattle.text.specs.Decimals.{read, malformed, decimal_of, decimal_said, nearest_of, number_of, number_said, whole_in, whole_of, whole_said}
 use Rattle.text.specs.declared.Decimal.{Decimal}
 use Rattle.text.specs.declared.DecimalAnswer.{DecimalAnswer}
-use Rattle.text.specs.declared.DecimalAnswer.TheVariants as DecimalAnswer
 use Rattle.text.specs.declared.NumberAnswer.{NumberAnswer}
-use Rattle.text.specs.declared.NumberAnswer.TheVariants as NumberAnswer
 use Rattle.text.specs.declared.WholeAnswer.{WholeAnswer}
-use Rattle.text.specs.declared.WholeAnswer.TheVariants as WholeAnswer
 
 -- what `read_decimal` said, and which answer that was
 module _ (w : List ℕ) (a : DecimalAnswer) (says : decimal_said a ≡ decimal_of w) where

@@ -5,11 +5,8 @@ use Rattle.std.specs.Float.Ieee.{round}
 use Rattle.text.specs.Bytes.{MINUS, POINT, digit}
 use Rattle.text.specs.declared.Decimal.{Decimal}
 use Rattle.text.specs.declared.DecimalAnswer.{DecimalAnswer}
-use Rattle.text.specs.declared.DecimalAnswer.TheVariants as DecimalAnswer
 use Rattle.text.specs.declared.NumberAnswer.{NumberAnswer}
-use Rattle.text.specs.declared.NumberAnswer.TheVariants as NumberAnswer
 use Rattle.text.specs.declared.WholeAnswer.{WholeAnswer}
-use Rattle.text.specs.declared.WholeAnswer.TheVariants as WholeAnswer
 
 -- what is read of some bytes
 pub data Read (A : Type 0) : Type 0 where

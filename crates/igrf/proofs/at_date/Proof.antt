@@ -1,10 +1,9 @@
 -- `igrf::at_date` meets its contract: Sum without 7 refuses nothing here. Assumes nothing.
-use mathlib.Core.Path.{◌≡◌, sym, ap, subst, ◌∙◌}
+use mathlib.Core.Path.{sym, ap, subst, ◌∙◌}
 use lib.Dec.{T}
 use lib.Ieee.{Float}
 use lib.IntN.{ℤ}
 use borrow.Author.Rules.{rules}
-use Rattle.models.specs.declared.epochs.EpochOffset.{EpochOffset}
 use Rattle.synthesis.specs.Sum.{offset_ok}
 use Rattle.synthesis.specs.Sum as sums
 use Rattle.field.specs.Field.{Asked, asked}

@@ -1,6 +1,5 @@
 -- `igrf::found_by` meets its contract. Assumes nothing.
-use mathlib.Core.Path.{◌≡◌, refl}
-use borrow.Author.Rules.{rules}
+use mathlib.Core.Path.{refl}
 use lib.Ieee.{binary32, of_bits}
 use Rattle.field.specs.Rated.{no_time, rated}
 use Rattle.field.proofs.Rated.{no_time_ok, rates_long}

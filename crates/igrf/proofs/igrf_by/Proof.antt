@@ -1,8 +1,6 @@
 -- `igrf::igrf_by` meets its contract: each return is a law of proofs/Laws.antt. Assumes nothing.
-use mathlib.Core.Path.{◌≡◌, refl, sym, ap, ◌∙◌}
+use mathlib.Core.Path.{◌≡◌, sym, ap, ◌∙◌}
 use borrow.Author.Rules.{rules}
-use lib.IntN.{pos}
-use lib.Signed.{lt_z}
 use mir.Syntax.{w32}
 use mir.ValLaws.{to_z-of_z}
 use Rattle.refusals.specs.declared.Verdict.TheVariants as Verdict

@@ -7,8 +7,6 @@ use Rattle.stored.proofs.Answers.{not_ninety, ninety}
 use borrow.Author.Rules.{rules}
 use Rattle.stored.proofs.read.Statement.{statement}
 use Rattle.stored.proofs.read.Tie as tie
-use Rattle.lists.proofs.lists_long.Reads as lists_long_reads
-use Rattle.stored.proofs.read_ninety.Reads as read_ninety_reads
 
 lists_long-requires : tie.Need-lists_long-requires
 lists_long-requires c κs = search rules

@@ -11,9 +11,6 @@ use Rattle.stored.proofs.Answers.{refused_bytes, taken_bytes, taken_long}
 use borrow.Author.Rules.{rules}
 use Rattle.stored.proofs.read_by.Statement.{statement}
 use Rattle.stored.proofs.read_by.Tie as tie
-use Rattle.stored.proofs.check.checked.Reads as checked_reads
-use Rattle.stored.proofs.take.lists.Reads as lists_reads
-use Rattle.stored.proofs.take.two_at.Reads as two_at_reads
 
 -- where nothing is refused, the bytes are as long as a set
 long_enough : (t : tie.In_default) → (let a = t.args in length a.bytes.now ≡ stored_length a.entries)

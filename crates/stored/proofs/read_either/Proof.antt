@@ -8,10 +8,6 @@ use Rattle.stored.proofs.Answers.{a_degree, bad_form, bad_output, each_alike, ei
 use borrow.Author.Rules.{rules}
 use Rattle.stored.proofs.read_either.Statement.{statement}
 use Rattle.stored.proofs.read_either.Tie as tie
-use Rattle.lists.proofs.check_lengths.Reads as check_lengths_reads
-use Rattle.stored.proofs.check.form.Reads as form_reads
-use Rattle.stored.proofs.read_longer.Reads as read_longer_reads
-use Rattle.stored.proofs.read_ninety.Reads as read_ninety_reads
 
 check_lengths-requires : tie.Need-check_lengths-requires
 check_lengths-requires c κs = search rules

@@ -10,8 +10,6 @@ use Rattle.stored.proofs.Writing.{ninety_lists, not_ninety_lists}
 use borrow.Author.Rules.{rules}
 use Rattle.stored.proofs.write.Statement.{statement}
 use Rattle.stored.proofs.write.Tie as tie
-use Rattle.lists.proofs.lists_long.Reads as lists_long_reads
-use Rattle.stored.proofs.write_by.Reads as write_by_reads
 
 lists_long-requires : tie.Need-lists_long-requires
 lists_long-requires c κs = search rules

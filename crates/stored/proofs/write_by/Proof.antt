@@ -16,10 +16,6 @@ use Rattle.stored.proofs.Writing.{refused_caps, year_refused, no_room, all_writt
 use borrow.Author.Rules.{rules}
 use Rattle.stored.proofs.write_by.Statement.{statement}
 use Rattle.stored.proofs.write_by.Tie as tie
-use Rattle.lists.proofs.check_caps.Reads as check_caps_reads
-use Rattle.stored.proofs.is_storable.Reads as is_storable_reads
-use Rattle.stored.proofs.layout.stored_length.Reads as stored_length_reads
-use Rattle.stored.proofs.put.set.Reads as set_Reads
 
 -- what the cast of a year to an unsigned number asks
 sized : (z : ℤ) → storable z ≡ true → T (non_neg z) × Fits w64 (nat_abs z)

@@ -9,8 +9,6 @@ use Rattle.stored.proofs.Writing.{bad_lists, good_lists}
 use borrow.Author.Rules.{rules}
 use Rattle.stored.proofs.write_either.Statement.{statement}
 use Rattle.stored.proofs.write_either.Tie as tie
-use Rattle.lists.proofs.check_lengths.Reads as check_lengths_reads
-use Rattle.stored.proofs.write_by.Reads as write_by_reads
 
 check_lengths-requires : tie.Need-check_lengths-requires
 check_lengths-requires c κs = search rules

@@ -54,16 +54,15 @@ loop-less c = search rules
 
 loop-again : tie.Need-loop-i-preserved invariant-loop decreases-loop
 unfolding quotient bounds inputs placed lit
-loop-again c =
-    (
-      search rules,
-      λ a e.
-          let w = c.loop-i.invariant.1 a e in
-          let j = c.loop-i.i in
-          let k = c.abs-k.ensures ∙ ap abs (c.legendre_k.ensures ∙ (next_k_lem (j + 1) (omega (arith, c.loop-i-test.true, c.requires))).1) in
-          let v : j + 1 + 1 ≡ suc (suc j) = omega arith in
-          (rw (k, v, add-one j, c.abs-c.ensures, e, w.0, w.1), rw (add-one j, w.0)),
-    )
+loop-again c = (
+  search rules,
+  λ a e.
+      let w = c.loop-i.invariant.1 a e in
+      let j = c.loop-i.i in
+      let k = c.abs-k.ensures ∙ ap abs (c.legendre_k.ensures ∙ (next_k_lem (j + 1) (omega (arith, c.loop-i-test.true, c.requires))).1) in
+      let v : j + 1 + 1 ≡ suc (suc j) = omega arith in
+      (rw (k, v, add-one j, c.abs-c.ensures, e, w.0, w.1), rw (add-one j, w.0)),
+)
 
 returns : tie.Need-returns invariant-loop decreases-loop
 returns c = λ a e.

@@ -1,5 +1,4 @@
 -- `allowance::profile::allowance_on` meets its contract. Assumes nothing.
-use borrow.Author.Rules.{rules}
 use Rattle.allowance.proofs.profile.allowance_on.Statement.{statement}
 use Rattle.allowance.proofs.profile.allowance_on.Tie as tie
 

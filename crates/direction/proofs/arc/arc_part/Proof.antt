@@ -26,12 +26,11 @@ arc_step-requires-7 : tie.Need-arc_step-requires
 arc_step-requires-7 c κs = search rules
 
 returns : tie.Need-returns
-returns c =
-    (
-      part_is c.args.z c.arc_step-a.result c.arc_step-b.result c.arc_step-c.result c.arc_step-d.result c.arc_step-e.result c.arc_step-f.result c.arc_step.result
-          c.arc_step-a.ensures.0 c.arc_step-b.ensures.0 c.arc_step-c.ensures.0 c.arc_step-d.ensures.0 c.arc_step-e.ensures.0 c.arc_step-f.ensures.0 c.arc_step.ensures.0,
-      c.arc_step.ensures.1,
-    )
+returns c = (
+  part_is c.args.z c.arc_step-a.result c.arc_step-b.result c.arc_step-c.result c.arc_step-d.result c.arc_step-e.result c.arc_step-f.result c.arc_step.result
+      c.arc_step-a.ensures.0 c.arc_step-b.ensures.0 c.arc_step-c.ensures.0 c.arc_step-d.ensures.0 c.arc_step-e.ensures.0 c.arc_step-f.ensures.0 c.arc_step.ensures.0,
+  c.arc_step.ensures.1,
+)
 
 pub arc_part_spec : {M : Type 1} → statement M
 arc_part_spec =

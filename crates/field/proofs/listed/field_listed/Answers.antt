@@ -1,7 +1,6 @@
 -- The list gives the figures, and Field with figures the rest: an answer has the set's epoch year for the day's (`by_8`).
 use Rattle.std.proofs.Common.{◌≡◌, ap, ◌∙◌, w32}
 use mir.ValLaws.{to_z-of_z}
-use Rattle.models.specs.Errors.{error_said}
 use Rattle.models.specs.Records.{listed_errors}
 use Rattle.field.specs.Field.{Asked, asked, field_with, listed_field, said}
 use Rattle.field.proofs.Answers.{by_8, answer_close}

@@ -1,7 +1,5 @@
 -- Each turn of the search is a law of proofs/Search.antt.
-use Rattle.std.proofs.Common.{◌≡◌, false, true, length, drop, sym, ◌∙◌, w32, rules, arith}
-use Rattle.models.specs.Epochs.{same_year}
-use Rattle.models.specs.Records.{listed_errors}
+use Rattle.std.proofs.Common.{sym, ◌∙◌, w32, arith}
 use mir.ValLaws.{to_z-of_z}
 use Rattle.models.proofs.Search.{met_at, passed_at, none_left}
 use Rattle.models.proofs.records.error_model_listed.Goals as goal

@@ -9,7 +9,7 @@ use borrow.Author.Rules.{rules}
 use Rattle.refusals.specs.Paper.{answered}
 use Rattle.synthesis.specs.declared.Xyz.{Xyz}
 use Rattle.strengths.specs.declared.GeomagneticField.{GeomagneticField}
-use Rattle.strengths.specs.Strengths.{bare, h_of}
+use Rattle.strengths.specs.Strengths.{h_of}
 use Rattle.field.specs.Field.{asked}
 use Rattle.igrf.specs.Igrf.{Profile, igrf_says, profile, rate_says}
 use Rattle.igrf.specs.Igrf as igrfs

@@ -4,8 +4,6 @@ use Rattle.lists.specs.Sets.{set_verdict}
 use borrow.Author.Rules.{rules}
 use Rattle.stored.proofs.check.capped.Statement.{statement}
 use Rattle.stored.proofs.check.capped.Tie as tie
-use Rattle.lists.proofs.check_lists.Reads as check_caps_reads
-use Rattle.stored.proofs.take.lists.Reads as lists_reads
 
 lists-requires : tie.Need-lists-requires
 lists-requires c κs = search rules

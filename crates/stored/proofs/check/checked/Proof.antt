@@ -4,8 +4,6 @@ use Rattle.stored.proofs.Answers.{no_frame, in_frame, frame_long}
 use borrow.Author.Rules.{rules}
 use Rattle.stored.proofs.check.checked.Statement.{statement}
 use Rattle.stored.proofs.check.checked.Tie as tie
-use Rattle.stored.proofs.check.capped.Reads as capped_reads
-use Rattle.stored.proofs.check.framed.Reads as framed_reads
 
 framed-requires : tie.Need-framed-requires
 framed-requires c κs = search rules

@@ -4,7 +4,6 @@ use Rattle.stored.proofs.Answers.{early_end, longer_list, other_list}
 use borrow.Author.Rules.{rules}
 use Rattle.stored.proofs.check.entries_in.Statement.{statement}
 use Rattle.stored.proofs.check.entries_in.Tie as tie
-use Rattle.stored.proofs.take.two_at.Reads as two_at_reads
 
 add-if1 : tie.Need-overflow_add-t-3
 add-if1 c = search rules

@@ -4,7 +4,6 @@ use Rattle.stored.proofs.Frame.{no_tag, other_tag, no_length, other_length, no_c
 use borrow.Author.Rules.{rules}
 use Rattle.stored.proofs.check.field.Statement.{statement}
 use Rattle.stored.proofs.check.field.Tie as tie
-use Rattle.stored.proofs.take.two_at.Reads as two_at_reads
 
 returns : tie.Need-returns-then-end-at
 returns c = let a = c.args in no_tag a.tag a.n a.at a.bytes.now (search rules)

@@ -3,8 +3,6 @@ use Rattle.stored.proofs.Answers.{form_bad, form_good, other_degree}
 use borrow.Author.Rules.{rules}
 use Rattle.stored.proofs.check.form.Statement.{statement}
 use Rattle.stored.proofs.check.form.Tie as tie
-use Rattle.stored.proofs.check.entries_in.Reads as entries_in_reads
-use Rattle.stored.proofs.check.framed.Reads as framed_reads
 
 entries_in-requires : tie.Need-entries_in-entries-requires
 entries_in-requires c κs = search rules

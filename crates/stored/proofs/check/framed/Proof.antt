@@ -9,8 +9,6 @@ use Rattle.stored.specs.Stored.{fields_verdict, frame_of}
 use Rattle.stored.proofs.Frame.{field_bad, field_good, left_over, all_taken}
 use Rattle.stored.proofs.check.framed.Statement.{statement}
 use Rattle.stored.proofs.check.framed.Tie as tie
-use Rattle.stored.proofs.check.field.Reads as field_reads
-use Rattle.stored.proofs.layout.content_length.Reads as content_length_reads
 
 abbrev invariant-loop : tie.invariant-loop-i
 invariant-loop bytes entries at₀ i₀ at i =

@@ -11,8 +11,6 @@ use Rattle.stored.specs.Layout.{bytes_of}
 use Rattle.stored.proofs.Stores.{stored_on}
 use Rattle.stored.proofs.put.floats.Statement.{statement}
 use Rattle.stored.proofs.put.floats.Tie as tie
-use Rattle.float32.proofs.to_bits.Reads as to_bits_reads
-use Rattle.stored.proofs.put.four.Reads as four_reads
 
 abbrev invariant-loop : tie.invariant-loop-i
 invariant-loop bytes₀ at list i₀ bytes i =

@@ -9,7 +9,6 @@ use lib.Seq.{sets, length-sets}
 use borrow.Author.Rules.{rules}
 use Rattle.stored.proofs.put.head.Statement.{statement}
 use Rattle.stored.proofs.put.head.Tie as tie
-use Rattle.stored.proofs.put.two.Reads as two_reads
 
 slice_write-bytes : tie.Need-bounds-bytes-at
 slice_write-bytes c = search rules

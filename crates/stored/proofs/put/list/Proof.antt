@@ -3,14 +3,12 @@ use mathlib.Core.Path.{ap, ◌∙◌}
 use mathlib.Core.List.{List}
 use Prim.Native.Nat.{ℕ, ◌+◌}
 use lib.Seq.{sets}
-use Rattle.stored.specs.Layout.{HEAD, bytes_of, list_length}
+use Rattle.stored.specs.Layout.{HEAD, bytes_of}
 use Rattle.stored.proofs.Floats.{length_bytes}
 use Rattle.stored.proofs.Stores.{field_stored}
 use borrow.Author.Rules.{rules}
 use Rattle.stored.proofs.put.list.Statement.{statement}
 use Rattle.stored.proofs.put.list.Tie as tie
-use Rattle.stored.proofs.put.floats.Reads as floats_reads
-use Rattle.stored.proofs.put.head.Reads as head_reads
 
 mul-head : tie.Need-overflow_mul-list
 mul-head c = search rules

@@ -4,8 +4,6 @@ use Rattle.stored.proofs.Writing.{five_runs}
 use borrow.Author.Rules.{rules}
 use Rattle.stored.proofs.put.set.Statement.{statement}
 use Rattle.stored.proofs.put.set.Tie as tie
-use Rattle.stored.proofs.put.list.Reads as list_reads
-use Rattle.stored.proofs.put.year.Reads as year_reads
 
 mul-n : tie.Need-overflow_mul-n
 mul-n c = search rules

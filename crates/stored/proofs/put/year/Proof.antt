@@ -8,8 +8,6 @@ use Rattle.stored.proofs.Stores.{field_stored}
 use borrow.Author.Rules.{rules}
 use Rattle.stored.proofs.put.year.Statement.{statement}
 use Rattle.stored.proofs.put.year.Tie as tie
-use Rattle.stored.proofs.put.head.Reads as head_reads
-use Rattle.stored.proofs.put.two.Reads as two_reads
 
 head-requires : tie.Need-head-requires
 head-requires c κs = search rules

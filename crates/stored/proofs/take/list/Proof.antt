@@ -1,7 +1,7 @@
 -- `stored::take::list` meets its contract: the first i entries are read. Assumes nothing.
 use mathlib.Core.Path.{◌≡◌, refl, sym, ap, ◌∙◌}
 use mathlib.Core.List.{List, ◌++◌, append-nil}
-use Prim.Native.Nat.{ℕ, ◌+◌, ◌-◌, ◌*◌, ◌≤◌}
+use Prim.Native.Nat.{ℕ, ◌-◌, ◌*◌, ◌≤◌}
 use native.Mathlib.Numerals.{add-one}
 use native.Mathlib.Omega.{arith}
 use borrow.Author.Rules.{rules}
@@ -13,8 +13,6 @@ use Rattle.stored.specs.Layout.{floats_in, number}
 use Rattle.stored.proofs.Floats.{entry_taken}
 use Rattle.stored.proofs.take.list.Statement.{statement}
 use Rattle.stored.proofs.take.list.Tie as tie
-use Rattle.float32.proofs.from_bits.Reads as from_bits_reads
-use Rattle.stored.proofs.take.four_at.Reads as four_at_reads
 
 abbrev invariant-loop : tie.invariant-loop-i
 invariant-loop bytes at entries to₀ i₀ to i =

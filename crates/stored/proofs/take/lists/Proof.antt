@@ -3,7 +3,6 @@ use Rattle.stored.proofs.Answers.{lists_taken}
 use borrow.Author.Rules.{rules}
 use Rattle.stored.proofs.take.lists.Statement.{statement}
 use Rattle.stored.proofs.take.lists.Tie as tie
-use Rattle.stored.proofs.take.list.Reads as list_reads
 
 add-first : tie.Need-overflow_add-first
 add-first c = search rules

@@ -4,7 +4,6 @@ use Prim.Native.Nat.{◌+◌, ◌-◌, ◌<◌, ◌≤◌}
 use native.Mathlib.Omega.{arith}
 use borrow.Author.Rules.{rules}
 use lib.Ieee.{Float, binary32, mul}
-use Rattle.tables.specs.Degree.{M_LEN, N_MAX}
 use Rattle.exact.proofs.Wholes.{lit_zero}
 use Rattle.sums.specs.Arithmetic.{rounded}
 use Rattle.sums.specs.Recurrence.{Input, power}

@@ -4,7 +4,7 @@ use Prim.Native.Nat.{ℕ, ◌≤◌}
 use native.Mathlib.Nat.{le_of_eq}
 use native.Mathlib.Omega.{arith}
 use Rattle.tables.specs.Degree.{N_MAX, WMM_MAX}
-use Rattle.synthesis.specs.Code.{Filled, Given, OfDegree}
+use Rattle.synthesis.specs.Code.{Given, OfDegree}
 use Rattle.synthesis.proofs.TermsHold.{filled_start, last_put}
 use Rattle.synthesis.proofs.GeneralSum.{last_is}
 use Rattle.synthesis.proofs.general.put_last_two.Statement.{statement}

@@ -5,7 +5,6 @@ use native.Mathlib.Omega.{arith}
 use borrow.Author.Rules.{rules}
 use lib.Dec.{le→leb}
 use lib.Ieee.{in_float}
-use Rattle.tables.specs.Degree.{N_MAX, M_LEN}
 use Rattle.tables.specs.Rule.{k_of}
 use Rattle.sums.specs.Recurrence.{lit}
 use Rattle.synthesis.specs.Sum.{lent}
