@@ -89,12 +89,12 @@ dates {y = y} {d = d} {f = f} g h k n a b e l = accepted f y d (sym (low h) ∙ 
 
 pub overflow_cast-epoch_year : goal.overflow_cast-epoch_year
 overflow_cast-epoch_year c =
-    let d = dates c.ranges.year c.ranges.day_of_year c.ranges.first c.days_in_year-days.ensures c.if-day_of_year-lt1.false c.if-days-day_of_year.false c.if-year-first.false c.if-year-gt-LAST_YEAR.false in
+    let d = dates c.ranges.year c.ranges.day_of_year c.ranges.first c.days_in_year-days.ensures (assumption (c)) (assumption (c)) (assumption (c)) (assumption (c)) in
     narrow (epoch_of c.ranges.year c.date_to_epoch_year-epoch_year.ensures ∙ d.epoch_is) (omega (arith, d.since, d.latest))
 
 pub years_since_epoch-offset-requires-clause-epoch_year_le_year : goal.years_since_epoch-offset-requires-clause-epoch_year_le_year
 years_since_epoch-offset-requires-clause-epoch_year_le_year c =
-    let d = dates c.ranges.year c.ranges.day_of_year c.ranges.first c.days_in_year-days.ensures c.if-day_of_year-lt1.false c.if-days-day_of_year.false c.if-year-first.false c.if-year-gt-LAST_YEAR.false in
+    let d = dates c.ranges.year c.ranges.day_of_year c.ranges.first c.days_in_year-days.ensures (assumption (c)) (assumption (c)) (assumption (c)) (assumption (c)) in
     rw (epoch_of c.ranges.year c.date_to_epoch_year-epoch_year.ensures ∙ d.epoch_is, to_z-of_z w32 c.args.year c.ranges.year ∙ d.year_is) d.since
 
 pub returns : goal.returns
@@ -102,7 +102,7 @@ unfolding day_from day_exists
 returns c =
     let y = c.args.year in
     let b = c.args.day_of_year in
-    let d = dates c.ranges.year c.ranges.day_of_year c.ranges.first c.days_in_year-days.ensures c.if-day_of_year-lt1.false c.if-days-day_of_year.false c.if-year-first.false c.if-year-gt-LAST_YEAR.false in
+    let d = dates c.ranges.year c.ranges.day_of_year c.ranges.first c.days_in_year-days.ensures (assumption (c)) (assumption (c)) (assumption (c)) (assumption (c)) in
     let yw = to_z-of_z w32 y c.ranges.year in
     let bw = to_z-of_z w32 b c.ranges.day_of_year in
     let ew = epoch_of c.ranges.year c.date_to_epoch_year-epoch_year.ensures in
