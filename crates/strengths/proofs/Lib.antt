@@ -5,4 +5,5 @@ pub mod Angles
 pub mod AtZero
 pub mod Room
 pub mod DueSouth
+pub mod NoAnswerSouth
 pub mod Unique
