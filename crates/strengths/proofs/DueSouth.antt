@@ -1,4 +1,4 @@
--- One name for due south (document 02, Wish 5): no wrap is -180, exactly where ours is not the crate's, and that it lies above -180 and up to 180. Assumes nothing.
+-- One name for due south (document 02, Wish 5): no grid variation is -180, exactly where ours is not the crate's, and that it lies above -180 and up to 180. Assumes nothing.
 use mathlib.Core.Path.{◌≡◌, refl, sym, ap, ◌∙◌, subst}
 use mathlib.Core.Logic.{⊎_elim}
 use Prim.Native.Nat.{ℕ, suc, ◌+◌, ◌-◌, ◌*◌, ◌^◌, ◌≤◌, ◌<◌}
@@ -26,6 +26,7 @@ use Rattle.refusals.proofs.Laws.{passed, answered_one}
 use Rattle.roots.specs.Root.{clear}
 use Rattle.roots.proofs.Signs.{clear_round}
 use Rattle.strengths.specs.Grid.{d55, d90, d180, d360, crate_wrapped, wrapped, Variation, degrees, absent, variation_by, variation_of, grid_says}
+use Rattle.strengths.proofs.NeverMinus180.{never_minus_180}
 
 -- an angle of -180
 abbrev pub south : Variation → Bool
@@ -33,7 +34,7 @@ south (degrees v) = eq v (neg d180)
 south absent = false
 
 -- what holds of the sum in the north, of the sum in the south and of none, under any wraps, holds of the variations
-pub by_place : (lat lon d : Float) (P : ((Float → Float) → Variation) → Type 0) → P (λ w. degrees (w (sub binary32 d lon))) → P (λ w. degrees (w (add binary32 d lon))) → P (λ w. absent) → P (λ w. variation_by w lat lon d)
+by_place : (lat lon d : Float) (P : ((Float → Float) → Variation) → Type 0) → P (λ w. degrees (w (sub binary32 d lon))) → P (λ w. degrees (w (add binary32 d lon))) → P (λ w. absent) → P (λ w. variation_by w lat lon d)
 unfolding variation_by
 by_place lat lon d P n s a = go (le d55 lat) (le lat (neg d55))
   where
@@ -42,23 +43,22 @@ by_place lat lon d P n s a = go (le d55 lat) (le lat (neg d55))
     go false true = s
     go false false = a
 
--- ---- no wrap is -180
-pub never_minus_180 : (x : Float) → eq (wrapped x) (neg d180) ≡ false
-unfolding wrapped
-never_minus_180 x = go (eq (crate_wrapped x) (neg d180)) refl
-  where
-    go : (b : Bool) → eq (crate_wrapped x) (neg d180) ≡ b → eq (cond b d180 (crate_wrapped x)) (neg d180) ≡ false
-    go true e = unfold of_bits neg eq in refl
-    go false e = e
+-- ---- no grid variation is -180
+never_south : (lat lon d : Float) → south (variation_of lat lon d) ≡ false
+unfolding variation_of
+never_south lat lon d = by_place lat lon d (λ v. south (v wrapped) ≡ false) (never_minus_180 (sub binary32 d lon)) (never_minus_180 (add binary32 d lon)) refl
 
 -- what an answer has passed, and what it is
-pub answered_is : (lat lon d : Float) (v : Variation) → grid_says lat lon d ≡ answered v → T (between (neg d180) d180 lon) × T (between (neg d180) d180 d) × (variation_of lat lon d ≡ v)
+answered_is : (lat lon d : Float) (v : Variation) → grid_says lat lon d ≡ answered v → T (between (neg d180) d180 lon) × T (between (neg d180) d180 d) × (variation_of lat lon d ≡ v)
 unfolding grid_says
 answered_is lat lon d v e =
     let p = passed (between (neg d90) d90 lat) Latitude _ v e in
     let q = passed (between (neg d180) d180 lon) Longitude _ v p.1 in
     let r = passed (between (neg d180) d180 d) Unusable _ v q.1 in
     (subst T (sym q.0) tt, subst T (sym r.0) tt, answered_one (variation_of lat lon d) v r.1)
+
+pub no_answer_south : (lat lon d : Float) (v : Variation) → grid_says lat lon d ≡ answered v → south v ≡ false
+no_answer_south lat lon d v e = subst (λ (w : Variation). south w ≡ false) (answered_is lat lon d v e).2 (never_south lat lon d)
 
 -- ---- ours is 180 where the crate's is -180, and else it is the crate's
 wrapped_as : (x : Float) → degrees (wrapped x) ≡ cond (eq (crate_wrapped x) (neg d180)) (degrees d180) (degrees (crate_wrapped x))

@@ -4,6 +4,6 @@ pub mod StrengthSizes
 pub mod Angles
 pub mod AtZero
 pub mod Room
+pub mod NeverMinus180
 pub mod DueSouth
-pub mod NoAnswerSouth
 pub mod Unique
