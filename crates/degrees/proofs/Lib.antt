@@ -1,4 +1,5 @@
 -- `Laws` is what other crates cite.
 mod Ways
+mod Upright
 pub mod Laws
 pub mod Unique
