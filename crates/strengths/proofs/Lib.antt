@@ -5,5 +5,6 @@ pub mod Angles
 pub mod AtZero
 pub mod Room
 pub mod NeverMinus180
+pub mod Named
 pub mod DueSouth
 pub mod Unique
