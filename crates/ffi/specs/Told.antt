@@ -58,7 +58,11 @@ either_field s height sp cp sl cl year day =
     after (says_of (entries_in s) s) (λ m. field_says (asked height sp cp sl cl m.year m.lists.g m.lists.h m.lists.g_dot m.lists.h_dot) year day)
 
 -- ---- how each answer is written
--- of Sum X', Y and Z', of the IGRF profile X, Y and Z, in this order
+-- X', Y and Z', in this order
+abbrev pub sum_floats : Xyz → List Float
+sum_floats v = v.x ∷ v.y ∷ v.z ∷ []
+
+-- of the IGRF profile X, Y and Z, in this order
 abbrev pub xyz_floats : Xyz → List Float
 xyz_floats v = v.x ∷ v.y ∷ v.z ∷ []
 

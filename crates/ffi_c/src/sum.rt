@@ -1,7 +1,7 @@
 // Sum.
 ghost use Rattle.std.specs.Prelude.{◌≡◌};
 ghost use Rattle.synthesis.specs.Sum.{lent, sum_says};
-ghost use Rattle.ffi.specs.Told.{number_of, result_place, entry_place, xyz_floats};
+ghost use Rattle.ffi.specs.Told.{number_of, result_place, entry_place, sum_floats};
 
 #[unsafe(no_mangle)]
 pub extern "C" fn njerumoy_sum(
@@ -19,7 +19,7 @@ pub extern "C" fn njerumoy_sum(
     entry: &mut [usize; 2],
 ) -> u32
     ensures answer { let p = sum_says (lent cos_theta sin_theta sin_lambda cos_lambda ratio offset g.now h.now g_dot.now h_dot.now) in
-        (result ≡ number_of p) × (xyz.new ≡ result_place xyz_floats xyz.old p) × (entry.new ≡ entry_place entry.old p) }
+        (result ≡ number_of p) × (xyz.new ≡ result_place sum_floats xyz.old p) × (entry.new ≡ entry_place entry.old p) }
     ensures kept { (g.exit.now ≡ g.entry.now) × (h.exit.now ≡ h.entry.now) × (g_dot.exit.now ≡ g_dot.entry.now) × (h_dot.exit.now ≡ h_dot.entry.now) }
 {
     ffi::njerumoy_sum(

@@ -40,7 +40,7 @@ unfolding ceilings upward inv_e own of_bits passed
 cap_less = lit≤ tt
 
 -- a float near a number whose majorant is at most T units of 2 ^ -20 is itself at most k
-most : (T k : ℕ) → T * (FINE + 8) + FINE ≤ k * (FINE * FINE) → (f : Float) (x : Exact) (M : Size) → size x ≡ M → Within f x M → Under M T → (n : ℕ) → In n f → n ≤ k * ONE
+pub most : (T k : ℕ) → T * (FINE + 8) + FINE ≤ k * (FINE * FINE) → (f : Float) (x : Exact) (M : Size) → size x ≡ M → Within f x M → Under M T → (n : ℕ) → In n f → n ≤ k * ONE
 most T k h f x M e w u n i =
     let v = subst (λ (z : Size). Within f x z) (sym e) w in
     let b = within_size f x T v ((subst (λ (z : Size). Under z T) (sym e) u).units v.some_over) in

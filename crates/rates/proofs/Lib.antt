@@ -3,6 +3,7 @@ pub mod Rated
 pub mod Answers
 pub mod Divisors
 pub mod Ceiling
+pub mod AtCaps
 pub mod Finite
 pub mod Laws
 pub mod OfProfile
