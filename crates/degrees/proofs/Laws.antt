@@ -113,30 +113,29 @@ never_longitude a year day h = degrees_never 3 (lit≤ tt) a year day (λ p q i 
     go : (b c d : Bool) → d ≡ true → Passes 3 (check b outside_height (check c Latitude (check d Longitude Verdict.Accepted)))
     go b c d e = passes_check 3 b outside_height (check c Latitude (check d Longitude Verdict.Accepted)) (λ i. omega arith) (passes_check 3 c Latitude (check d Longitude Verdict.Accepted) (λ i. omega arith) (passes_true 3 d Longitude Verdict.Accepted e tt))
 
--- ---- a latitude up to ±90 degrees
+-- ---- a latitude up to ±90 degrees: its cosine (`upright`) is not beyond the pole
 no_minus : (k : ℕ) (l : ℤ) → T (le beyond_pole (fin false k l))
 unfolding le lt eq neg of_bits
 no_minus k l = rw (lt-ltb 0 (1 * down l + k * up l * 1048576) (let p = down_pos l in omega arith)) tt
 
-upright : (x : Float) (p : Pair) → T (fits binary32 x) → T (between (neg d90) d90 x) → sine_says x ≡ answered p → T (le beyond_pole p.cosine)
-unfolding neg of_bits own
-upright x p h b e = let q = made_pair x p e in go x (between_size 90 _ _ _ _ _ _ x (lit≤ tt) (lit≤ tt) b) (subst (λ (r : Pair). TurnedAt x r) q.1 (turned_at x h q.0))
-  where
-    plus : (s : Bool) (m : ℕ) (e : ℤ) → m * up e ≤ 90 * down e → TurnedAt (fin s m e) p → T (le beyond_pole p.cosine)
-    plus s m e l t = let c = cosine_plus s m e p t l in subst (λ (z : Float). T (le beyond_pole z)) (sym c.2) (no_minus c.0 c.1)
-
-    go : (x : Float) → T (finite x) × AtMost 90 x → TurnedAt x p → T (le beyond_pole p.cosine)
-    go nan a t = absurd t
-    go (inf s) a t = absurd t
-    go (fin false m e) a t = plus false m e (let w = a.1 in omega arith) t
-    go (fin true m e) a t = plus true m e (let w = a.1 in omega arith) t
-
 -- and 2 only beyond them
 pub never_latitude : (a : Place) (year day : ℤ) → T (fits binary32 a.latitude) → T (between (neg d90) d90 a.latitude) → Never 2 (degrees_says a year day)
-unfolding place_verdict
+unfolding place_verdict neg of_bits own
 never_latitude a year day h b =
     degrees_never 2 (lit≤ tt) a year day
     (λ p q i j. go (height_ok a.height) (latitude_ok p.sine p.cosine) (circle q.sine q.cosine) (is_true (latitude_ok p.sine p.cosine) (and_i (circle p.sine p.cosine) (le beyond_pole p.cosine) (subst T (sym (made_on_circle a.latitude p h i)) tt) (upright a.latitude p h b i))))
   where
+    upright : (x : Float) (p : Pair) → T (fits binary32 x) → T (between (neg d90) d90 x) → sine_says x ≡ answered p → T (le beyond_pole p.cosine)
+    upright x p h b e = let q = made_pair x p e in go x (between_size 90 _ _ _ _ _ _ x (lit≤ tt) (lit≤ tt) b) (subst (λ (r : Pair). TurnedAt x r) q.1 (turned_at x h q.0))
+      where
+        plus : (s : Bool) (m : ℕ) (e : ℤ) → m * up e ≤ 90 * down e → TurnedAt (fin s m e) p → T (le beyond_pole p.cosine)
+        plus s m e l t = let c = cosine_plus s m e p t l in subst (λ (z : Float). T (le beyond_pole z)) (sym c.2) (no_minus c.0 c.1)
+
+        go : (x : Float) → T (finite x) × AtMost 90 x → TurnedAt x p → T (le beyond_pole p.cosine)
+        go nan a t = absurd t
+        go (inf s) a t = absurd t
+        go (fin false m e) a t = plus false m e (let w = a.1 in omega arith) t
+        go (fin true m e) a t = plus true m e (let w = a.1 in omega arith) t
+
     go : (b c d : Bool) → c ≡ true → Passes 2 (check b outside_height (check c Latitude (check d Longitude Verdict.Accepted)))
     go b c d e = passes_check 2 b outside_height (check c Latitude (check d Longitude Verdict.Accepted)) (λ i. omega arith) (passes_true 2 c Latitude (check d Longitude Verdict.Accepted) e (passes_check 2 d Longitude Verdict.Accepted (λ i. omega arith) tt))

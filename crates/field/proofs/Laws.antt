@@ -12,7 +12,7 @@ use Rattle.refusals.specs.declared.Refusal.TheVariants.{Latitude, Longitude}
 use Rattle.models.specs.declared.epochs.EpochOffset.{EpochOffset}
 use Rattle.models.specs.declared.errors.WmmErrorModel.{WmmErrorModel}
 use Rattle.models.specs.Epochs.{epoch_says}
-use Rattle.models.specs.Dated.{dated, known_day}
+use Rattle.models.proofs.Dated.{dated, known_day}
 use Rattle.sums.proofs.Distance.{majored}
 use Rattle.field.specs.Field.{FieldAccepted, Asked, FieldClose, field_x, field_y, field_z, handed, outside_height, place_verdict, record_of, strengths_of}
 use Rattle.exact.specs.Exact.{Exact}

@@ -15,7 +15,7 @@ use Rattle.refusals.proofs.Laws.{answered_one, check_accepted, no_answer, no_ref
 use Rattle.models.specs.declared.epochs.EpochOffset.{EpochOffset}
 use Rattle.models.specs.Epochs.{IGRF_FIRST, day_exists, day_from, days_from, epoch_offset, epoch_year_of, igrf_day, known_epoch, same_year, served_from, wrong_day}
 use Rattle.models.proofs.Years.{same_year_lem, years_served}
-use Rattle.models.specs.Dated.{dated_from}
+use Rattle.models.proofs.Dated.{dated_from}
 use Rattle.lists.proofs.Checked.{Listed, holds}
 use Rattle.lists.proofs.OfProfile.{forecast_listed, pair_listed}
 use Rattle.geocentric.specs.Geo.{height_ok, latitude_ok}

@@ -11,7 +11,7 @@ use mir.Syntax.{w32}
 use mir.Val.{SFits, of_z, to_z}
 use mir.ValLaws.{to_z-of_z}
 use Rattle.models.specs.Epochs.{EPOCH_YEARS, day_from, epoch_says, epoch_year_of, known_epoch, same_year, served_from}
-use Rattle.models.specs.Dated.{below_zero}
+use Rattle.models.proofs.Dated.{below_zero}
 
 pub same_year_lem : (a b : ℤ) → same_year a b ≡ true → a ≡ b
 same_year_lem (pos a) (pos b) e = ap pos (eqb-true a b e)

@@ -5,4 +5,5 @@ pub mod Records
 pub mod Errors
 pub mod Signed
 pub mod Dated
+pub mod Tested
 pub mod Laws

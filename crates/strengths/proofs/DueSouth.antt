@@ -26,6 +26,7 @@ use Rattle.refusals.proofs.Laws.{passed, answered_one}
 use Rattle.roots.specs.Root.{clear}
 use Rattle.roots.proofs.Signs.{clear_round}
 use Rattle.strengths.specs.Grid.{d55, d90, d180, d360, crate_wrapped, wrapped, Variation, degrees, absent, variation_by, variation_of, grid_says}
+use Rattle.strengths.proofs.NeverMinus180.{never_minus_180}
 
 -- an angle of -180
 abbrev pub south : Variation → Bool
@@ -43,14 +44,6 @@ by_place lat lon d P n s a = go (le d55 lat) (le lat (neg d55))
     go false false = a
 
 -- ---- no grid variation is -180
-pub never_minus_180 : (x : Float) → eq (wrapped x) (neg d180) ≡ false
-unfolding wrapped
-never_minus_180 x = go (eq (crate_wrapped x) (neg d180)) refl
-  where
-    go : (b : Bool) → eq (crate_wrapped x) (neg d180) ≡ b → eq (cond b d180 (crate_wrapped x)) (neg d180) ≡ false
-    go true e = unfold of_bits neg eq in refl
-    go false e = e
-
 never_south : (lat lon d : Float) → south (variation_of lat lon d) ≡ false
 unfolding variation_of
 never_south lat lon d = by_place lat lon d (λ v. south (v wrapped) ≡ false) (never_minus_180 (sub binary32 d lon)) (never_minus_180 (add binary32 d lon)) refl

@@ -8,18 +8,14 @@ use mathlib.Core.Logic.{inl, inr}
 use borrow.Author.Tests.{ltb-true, ltb-false, leb-false, leb-true, lt-ltb, le-ltb, lt-leb}
 use lib.Dec.{T, leb, ltb, leb→le, lit≤, lit<}
 use lib.IntN.{pos}
-use lib.ListN.{get_or}
-use lib.Ieee.{fin, binary32, of_bits, of_int, sub, to_bits, lt, round}
+use lib.Ieee.{fin, binary32, of_bits, of_int, sub, lt, round}
 use lib.Ieee.Scale.{finite}
 use Rattle.exact.specs.Exact.{lit, own}
 use Rattle.exact.proofs.Range.{holds_one, round_fit, round_null}
 use Rattle.exact.proofs.Sizes.{AtMost}
 use Rattle.exact.proofs.Wholes.{lit_one, lit_zero, short_not_above, whole_above, whole_difference, whole_product, whole_quotient, whole_short}
-use Rattle.tables.specs.Degree.{WMM_MAX, place}
-use Rattle.tables.specs.Tables.{k_bits}
 use Rattle.tables.specs.Rule.{k_of}
 use Rattle.tables.specs.Division.{at_least_zero, k_divided, k_divisor, k_over}
-use Rattle.tables.proofs.TableStatement.{k_stored}
 
 -- ---- the fraction of degree n + 1: (n^2 - m^2) / (4n^2 - 1)
 -- its two parts, as the rule has them
@@ -107,10 +103,6 @@ k_whole n m N M = divided n m N M ∙ go (leb (m + 2) (n + 1)) refl
         let h = leb-false (m + 2) (n + 1) e in
         let l : n * n ≤ m * m = mul-le-mul (omega arith) (omega arith) in
         round_null false _ _ (omega arith) (divisor_fine (n * n) (le_trans (mul-le-mul N N) (lit≤ tt))).0
-
--- its bits are those that the source stores
-pub division_stored : (n m : ℕ) → n < WMM_MAX → m < n + 2 → to_bits binary32 (k_divided (lit n) (lit m)) ≡ get_or k_bits (place (n + 1) m) 0
-division_stored n m hn hm = ap (to_bits binary32) (k_whole n m (omega arith) (omega arith)) ∙ k_stored (n + 1) m (omega arith) (omega arith)
 
 -- ---- outside n ≥ 2 and m ≤ n - 2 it is +0
 pub k_zero : (n m : ℕ) → n < m + 2 → k_of n m ≡ fin false 0 (pos 0)

@@ -14,7 +14,8 @@ use mir.ValLaws.{to_z-of_z, to_z_pos}
 use Rattle.models.specs.Calendar.{days_in_year}
 use Rattle.models.specs.Epochs.{day_exists, day_from, epoch_year_of, natural_offset, epoch_offset, offset_of, served_from}
 use Rattle.models.specs.Signed.{fits_epoch}
-use Rattle.models.specs.Dated.{Dated, accepted, longest_year}
+use Rattle.models.specs.Dated.{Dated}
+use Rattle.models.proofs.Dated.{accepted, longest_year}
 use Rattle.models.proofs.epochs.day_from.Goals as goal
 
 -- ---- the tests, over the numbers that the words stand for
