@@ -227,7 +227,7 @@ njerumoy_field_stored_either_distance κs stored height sin_phi cos_phi sin_lamb
     let v = r.1 in
     (r.0, v, r.2, c.0.1 ∙ ap (result_place field_floats _) r.3, c.0.2 ∙ ap (result_place error_floats _) r.3, field_close (with_set height sin_phi cos_phi sin_lambda cos_lambda r.0) year day (Answer.Field v) (sym r.4) v refl)
 
--- the same of the entry with a lent list, over its clauses, since its proof is by hand
+-- the same of the entry with a lent list, over its clauses
 pub njerumoy_field_listed_distance : {M : Type 1} {𝓤 : Ura M} (𝓛 : Logic 𝓤) (mem : Memory → SProp 𝓤) (run : Routine → Fun 𝓤) (κs : Lfts 9) (height sin_phi cos_phi sin_lambda cos_lambda : Float) (year day epoch_year : ℤ)
     (g h g_dot h_dot : Bor (List Float)) (records : Bor (List ErrorRecord)) (xyz errors : MutBor (List Float)) (entry : MutBor (List ℕ)) (years : MutBor (List ℤ)) (xyz' errors' : List Float) (entry' : List ℕ) (years' : List ℤ)
     → (let a : Args listed.signature κs = (height, (sin_phi, (cos_phi, (sin_lambda, (cos_lambda, (year, (day, (epoch_year, (g, (h, (g_dot, (h_dot, (records, (xyz, (errors, (entry, (years, tt))))))))))))))))) in

@@ -1,5 +1,5 @@
 -- Every entry's contract leaves one number, and one content of each place that is lent for results: each law is over what the kit makes of the
--- entry's `ensures`, a `Post`, or `clauses` where the proof is by hand.
+-- entry's `ensures`, a `Post`, or its `clauses`.
 use mathlib.Core.Path.{◌≡◌, sym, ◌∙◌}
 use Rattle.refusals.specs.OneResult.{OneResult, OneAnswer}
 use Rattle.refusals.proofs.Clauses.{both_say_first}

@@ -1,6 +1,5 @@
-// Field and the uncertainty with a lent list of error records. The two entries are proved by a walk by
-// hand, for the slice of structs: each searches the list, and hands the figures to a function with
-// plain parameters.
+// Field and the uncertainty with a lent list of error records. Each of the two
+// entries searches the list, and hands the figures to a function with plain parameters.
 ghost use Rattle.std.specs.Prelude.{◌≡◌};
 ghost use Rattle.models.specs.Errors.{error_said};
 ghost use Rattle.strengths.specs.Strengths.{bare, uncertainty_with, listed_uncertainty};

@@ -10,7 +10,7 @@ use strengths::GeomagneticField;
 use synthesis::Longitude;
 
 // Refusals 1 to 8, then 15 and 12 of the list, then the answer. As Field's own clauses, with the list
-// for the built-in records. Its proof is a walk by hand, for the slice of structs.
+// for the built-in records.
 pub fn field_listed(
     height: f32,
     latitude: Latitude,

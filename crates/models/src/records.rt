@@ -79,8 +79,8 @@ fn no_record() -> ErrorModelAnswer
     ErrorModelAnswer::Refused(Refusal::NoErrorRecord)
 }
 
-// The first record of the year wins. This function alone goes through a list: its proof is a walk by
-// hand, so it hands each record by value to a function that is none.
+// The first record of the year wins. This function alone goes through a list: it hands each
+// record by value to a function that does not.
 pub fn error_model_listed(records: &[ErrorRecord], epoch_year: i32) -> ErrorModelAnswer
     ensures result_value { error_said result ≡ listed_errors records.now epoch_year }
     ensures kept { records.exit.now ≡ records.entry.now }

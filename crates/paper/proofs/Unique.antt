@@ -1,5 +1,5 @@
 -- Every public contract leaves one result: the law of each public function and of each entry for C, named after it. A law is over the contract that
--- the kit makes of the function's own `ensures` (`OneResult`, and `OneAnswer` where the proof is by hand: refusals/specs/OneResult.antt). It stands in the function's crate, in proofs/Unique.antt, so
+-- the kit makes of the function's own `ensures` (`OneResult`, and `OneAnswer` of those that are lent a list of error records: refusals/specs/OneResult.antt). It stands in the function's crate, in proofs/Unique.antt, so
 -- that a weaker contract is refused there; here all are listed.
 pub use Rattle.refusals.proofs.Unique.{number}
 pub use Rattle.float32.proofs.Unique.{is_finite, abs, over_cap, outside, off_circle, to_bits, from_bits}

@@ -19,7 +19,7 @@ OneResult {n} ps r contract =
     (κs : Lfts n) (a : Dens κs ps) (x y : (res_t r κs).Denot) (u v : Lasts (ended_of n ps r) κs a)
     → contract κs a x (at_exit (ended_of n ps r) κs a u) → contract κs a y (at_exit (ended_of n ps r) κs a v) → (x ≡ y) × (u ≡ v)
 
--- the same of a function that is proved by hand, for which the kit makes no `Post`: the contract is its `clauses`, assertions of the kit's logic, and
+-- the same over a function's `clauses`, which are its `ensures` as assertions of the kit's logic:
 -- what they say of the one result and of the other entails that the two are equal
 abbrev pub OneAnswer : (T : Ended) → ((M : Type 1) (𝓤 : Ura M) → (𝓛 : Logic 𝓤) → (Memory → SProp 𝓤) → (Routine → Fun 𝓤) → Clauses 𝓤 T) → Type 2
 OneAnswer T contract =

@@ -1,4 +1,4 @@
--- Every public contract leaves one result: each law is over what the kit makes of the function's `ensures`, a `Post`, or `clauses` where the proof is by hand.
+-- Every public contract leaves one result: each law is over what the kit makes of the function's `ensures`, a `Post` (`OneResult`), or its `clauses` (`OneAnswer`).
 use mathlib.Core.Path.{refl, sym, ◌∙◌}
 use Rattle.strengths.proofs.StrengthLaws.{strength_one, zone_one, grid_one}
 use Rattle.refusals.specs.OneResult.{OneResult, OneAnswer}

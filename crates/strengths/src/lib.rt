@@ -193,7 +193,7 @@ impl GeomagneticField {
         self.uncertainty_with(models::error_model_by_epoch_year(epoch_year))
     }
 
-    // The same with the figures of a lent list. Its proof is a walk by hand, for the slice of structs.
+    // The same with the figures of a lent list.
     pub fn declination_uncertainty_listed(
         self,
         records: &[ErrorRecord],
