@@ -32,7 +32,7 @@ use Rattle.field.proofs.Answers.{after_answered}
 use Rattle.field.proofs.There.{there_x_near, there_x_related, there_y_near, there_y_related, there_z_near, there_z_related}
 use Rattle.field.proofs.Reach.{Under, there_y_under}
 use Rattle.field.proofs.Ceiling.{between_under, east_size, full, full_reach}
-use Rattle.igrf.specs.Igrf.{Profile, early, igrf_x, igrf_y, igrf_z, igrf_says, lists_found}
+use Rattle.igrf.specs.Igrf.{Profile, across, across_x, across_y, across_z, early, igrf_x, igrf_y, igrf_z, igrf_says, lists_found}
 use Rattle.igrf.proofs.Lists.{at_all}
 use Rattle.igrf.proofs.Laws.{Met, behind, close, day_met, late_accepted, late_listed}
 use Rattle.bounds.specs.Bounds.{absolutes, allowed, bounds}
@@ -87,7 +87,7 @@ module _ (a : Profile) (e : EpochOffset) where
     h_same = λ j n m. spanned h d e.offset (l.hd_long ∙ sym l.h_long) n m j
 
     spread_shown : allowances_of spread e ≡ igrf_allowances a true e
-    unfolding field_x field_y field_z there_x there_y there_z there inputs placed handed
+    unfolding field_x field_y field_z there_x there_y there_z there across across_x across_y across_z inputs placed handed
     spread_shown = λ j.
         record {
           x = allowed (there_x bounds a.one top (g_same j) (h_same j));
@@ -101,6 +101,7 @@ module _ (a : Profile) (e : EpochOffset) where
 
   -- ---- what is shown covers the allowance of demand 3
   early_covered : Met a true e → IgrfCovered a true e (igrf_allowances a true e)
+  unfolding across across_x across_y across_z there there_x there_y there_z handed
   early_covered m =
       let l = pair_listed _ _ _ _ m.lists in
       let t = offset_leaf e.offset m.offset in

@@ -19,7 +19,7 @@ use Rattle.synthesis.specs.declared.Xyz.{Xyz}
 use Rattle.synthesis.specs.Sum.{Lent, lent, numbers_verdict, offset_ok, ratio_ok, uncapped_says, value_of}
 use Rattle.lists.specs.Profile.{forecast_verdict, pair_verdict}
 use Rattle.lists.proofs.OfProfile.{forecast_listed, pair_listed}
-use Rattle.igrf.specs.Igrf.{Profile, chosen, day_shows, fifths, found_by, lists_found, mixed, years_found}
+use Rattle.igrf.specs.Igrf.{Profile, chosen, day_shows_by, fifths, found_by, lists_found, mixed, years_found}
 use Rattle.field.specs.Turn.{turned}
 use Rattle.field.specs.Field.{Asked, asked, field_x, field_y, field_z, handed, strengths_of}
 
@@ -70,14 +70,14 @@ abbrev pub of_years : Profile → Bool → EpochOffset → Verdict
 of_years a soon e = years_found soon e.epoch_year a.one.set_epoch a.second_epoch
 
 module _ (r : Bool) (a : Profile) (soon : Bool) (e : EpochOffset) where
-  pub read_refused : (k : Refusal) → read_found a soon ≡ Verdict.Refused k → paper k ≡ day_shows r a soon e
+  pub read_refused : (k : Refusal) → read_found a soon ≡ Verdict.Refused k → paper k ≡ day_shows_by r a soon e
   read_refused k h = rw (sym (lists_read a soon) ∙ h)
 
   module _ (l : read_found a soon ≡ Verdict.Accepted) where
-    pub years_refused : (k : Refusal) → of_years a soon e ≡ Verdict.Refused k → paper k ≡ day_shows r a soon e
+    pub years_refused : (k : Refusal) → of_years a soon e ≡ Verdict.Refused k → paper k ≡ day_shows_by r a soon e
     years_refused k h = rw (sym (lists_read a soon) ∙ l, h)
 
-    pub day_shown : of_years a soon e ≡ Verdict.Accepted → (p : Paper Xyz) → p ≡ answered (found_by r (chosen a soon) e) → p ≡ day_shows r a soon e
+    pub day_shown : of_years a soon e ≡ Verdict.Accepted → (p : Paper Xyz) → p ≡ answered (found_by r (chosen a soon) e) → p ≡ day_shows_by r a soon e
     day_shown h p i = i ∙ rw (sym (lists_read a soon) ∙ l, h)
 
 -- the lists that the sums read are of one degree

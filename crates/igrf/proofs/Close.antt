@@ -29,7 +29,7 @@ use Rattle.strengths.specs.Strengths.{max_component}
 use Rattle.field.proofs.There.{there_close_x, there_close_y, there_close_z, there_x_near, there_x_related, there_y_near, there_y_related, there_z_near, there_z_related}
 use Rattle.field.proofs.Reach.{Under, there_x_under, there_y_under, there_z_under}
 use Rattle.field.proofs.Ceiling.{between_under, full, full_reach, xyz_usable}
-use Rattle.igrf.specs.Igrf.{IgrfClose, Profile, RateClose, fifth, fifths, mixed}
+use Rattle.igrf.specs.Igrf.{IgrfClose, Profile, RateClose, across, across_x, across_y, across_z, fifth, fifths, mixed}
 use Rattle.igrf.proofs.Lists.{at_all, first_long}
 
 -- ---- the rates between two lists, by place
@@ -72,7 +72,7 @@ module _ (a : Profile) (H : T (height_ok a.one.height)) (L : T (latitude_ok a.on
     h_then n m = rw (h_fifth n m) (between_near rounded_keeps h d n m (main_at h l.h_capped n m) (main_at d l.d_capped n m) e.offset (offset_leaf e.offset O))
 
     pub early_close : IgrfClose a true e (strengths_of (mixed a) e)
-    unfolding mixed there there_x there_y there_z
+    unfolding mixed there there_x there_y there_z across across_x across_y across_z handed
     early_close =
         let s = hom_related size_hom in
         record {

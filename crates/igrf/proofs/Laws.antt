@@ -7,7 +7,7 @@ use lib.Dec.{T}
 use lib.IntN.{ℤ, pos, negsuc}
 use lib.Signed.{lt_z}
 use Rattle.exact.specs.Tests.{circle}
-use Rattle.refusals.specs.Paper.{Paper, after, answered, paper, refused, unless}
+use Rattle.refusals.specs.Paper.{Paper, after, answered, paper, refused, unless, told}
 use Rattle.refusals.specs.declared.Refusal.{Refusal}
 use Rattle.refusals.specs.declared.Refusal.TheVariants.{DayOfYear, Latitude, Longitude, OtherEpoch}
 use Rattle.refusals.specs.declared.Verdict.{Verdict}
@@ -29,26 +29,30 @@ use Rattle.field.proofs.Answers.{after_answered}
 use Rattle.field.proofs.Offset.{never_11}
 use Rattle.igrf.specs.declared.IgrfAnswer.{IgrfAnswer}
 use Rattle.igrf.specs.declared.IgrfAnswer.TheVariants as Answer
-use Rattle.igrf.specs.Igrf.{IgrfClose, Profile, RateClose, chosen, day_shows, early, found_by, igrf_by, igrf_says, lists_found, rate_says, said, years_found}
+use Rattle.igrf.specs.Igrf.{IgrfClose, Profile, RateClose, chosen, components_of, day_shows_by, early, found_by, igrf_by, igrf_says, lists_found, rate_says, said, years_found}
 use Rattle.igrf.proofs.Close.{early_close, early_rates_close}
 
 abbrev pub of_place : Profile → Verdict
 of_place a = place_verdict a.one.height a.one.sin_phi a.one.cos_phi a.one.sin_lambda a.one.cos_lambda
 
+-- both in one: of X, Y and Z (`components_of`) as of their rates
+by_is : (r : Bool) (a : Profile) (year day : ℤ)
+    → igrf_by r a year day ≡ told (of_place a) (after (igrf_day year day) (day_shows_by r a (early year)))
+unfolding igrf_says rate_says components_of chosen
+by_is false a year day = refl
+by_is true a year day = refl
+
 -- ---- the ways
 module _ (r : Bool) (a : Profile) (year day : ℤ) where
   pub place_refused : (k : Refusal) → of_place a ≡ Verdict.Refused k → paper k ≡ igrf_by r a year day
-  unfolding igrf_by
-  place_refused k e = rw e
+  place_refused k e = rw (by_is r a year day, e)
 
   module _ (p : of_place a ≡ Verdict.Accepted) where
     pub day_refused : (k : Refusal) → paper k ≡ igrf_day year day → paper k ≡ igrf_by r a year day
-    unfolding igrf_by
-    day_refused k e = rw (p, sym e)
+    day_refused k e = rw (by_is r a year day, p, sym e)
 
-    pub day_answered : (e : EpochOffset) → answered e ≡ igrf_day year day → (q : Paper Xyz) → q ≡ day_shows r a (early year) e → q ≡ igrf_by r a year day
-    unfolding igrf_by
-    day_answered e h q i = i ∙ rw (p, sym h)
+    pub day_answered : (e : EpochOffset) → answered e ≡ igrf_day year day → (q : Paper Xyz) → q ≡ day_shows_by r a (early year) e → q ≡ igrf_by r a year day
+    day_answered e h q i = i ∙ rw (by_is r a year day, p, sym h)
 
 -- ---- what the place and the day say
 pub place_good : (a : Profile) → of_place a ≡ Verdict.Accepted → T (height_ok a.one.height) × T (latitude_ok a.one.sin_phi a.one.cos_phi) × T (circle a.one.sin_lambda a.one.cos_lambda)
@@ -115,7 +119,7 @@ module _ (r : Bool) (a : Profile) (year day : ℤ) (v : Xyz) where
   abbrev Behind : EpochOffset → Type 0
   Behind e = Met a (early year) e × (found_by r (chosen a (early year)) e ≡ v)
 
-  on_day : of_place a ≡ Verdict.Accepted → (q : Paper EpochOffset) → igrf_day year day ≡ q → after q (day_shows r a (early year)) ≡ answered v → Behind (epoch_offset year day)
+  on_day : of_place a ≡ Verdict.Accepted → (q : Paper EpochOffset) → igrf_day year day ≡ q → after q (day_shows_by r a (early year)) ≡ answered v → Behind (epoch_offset year day)
   on_day p (answered e) d i =
       let q = told_answered (lists_found a (early year)) _ v i in
       let y = told_answered (years_found (early year) e.epoch_year a.one.set_epoch a.second_epoch) _ v q.1 in
@@ -125,20 +129,18 @@ module _ (r : Bool) (a : Profile) (year day : ℤ) (v : Xyz) where
   on_day p (refused n f z) d i = absurd (no_refusal (sym i))
 
   pub behind : igrf_by r a year day ≡ answered v → Behind (epoch_offset year day)
-  unfolding igrf_by
-  behind h = let p = told_answered (of_place a) _ v h in on_day p.0 (igrf_day year day) refl p.1
+  behind h = let p = told_answered (of_place a) _ v (sym (by_is r a year day) ∙ h) in on_day p.0 (igrf_day year day) refl p.1
 
 -- the day is answered for
 pub day_met : (r : Bool) (a : Profile) (year day : ℤ) (v : Xyz) → igrf_by r a year day ≡ answered v → igrf_day year day ≡ answered (epoch_offset year day)
-unfolding igrf_by
 day_met r a year day v h =
-    let p = told_answered (of_place a) _ v h in
-    let q = after_answered (igrf_day year day) (day_shows r a (early year)) v p.1 in
+    let p = told_answered (of_place a) _ v (sym (by_is r a year day) ∙ h) in
+    let q = after_answered (igrf_day year day) (day_shows_by r a (early year)) v p.1 in
     q.1.0 ∙ ap answered (sym (day_is year day q.0 q.1.0))
 
 -- what has X, Y and Z has their rates: nothing more is refused
 module _ (a : Profile) (year day : ℤ) (v : Xyz) where
-  of_day : (q : Paper EpochOffset) → igrf_day year day ≡ q → after q (day_shows false a (early year)) ≡ answered v → after q (day_shows true a (early year)) ≡ answered (component_rates (chosen a (early year)))
+  of_day : (q : Paper EpochOffset) → igrf_day year day ≡ q → after q (day_shows_by false a (early year)) ≡ answered v → after q (day_shows_by true a (early year)) ≡ answered (component_rates (chosen a (early year)))
   of_day (answered e) d i =
       let q = told_answered (lists_found a (early year)) _ v i in
       let y = told_answered (years_found (early year) e.epoch_year a.one.set_epoch a.second_epoch) _ v q.1 in
@@ -146,8 +148,7 @@ module _ (a : Profile) (year day : ℤ) (v : Xyz) where
   of_day (refused n f z) d i = absurd (no_refusal (sym i))
 
   pub rates_answered : igrf_says a year day ≡ answered v → rate_says a year day ≡ answered (component_rates (chosen a (early year)))
-  unfolding igrf_by
-  rates_answered h = let p = told_answered (of_place a) _ v h in rw p.0 (of_day (igrf_day year day) refl p.1)
+  rates_answered h = let p = told_answered (of_place a) _ v (sym (by_is false a year day) ∙ h) in rw (by_is true a year day, p.0) (of_day (igrf_day year day) refl p.1)
 
 -- ---- demand 3
 module _ (a : Profile) (e : EpochOffset) where

@@ -3,7 +3,7 @@ pub mod Years
 pub mod Lists
 pub mod Answers
 pub mod Close
-pub mod Across
 pub mod Laws
+pub mod Across
 pub mod Usable
 pub mod Unique

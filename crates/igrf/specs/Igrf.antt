@@ -12,10 +12,12 @@ use Rattle.models.specs.Epochs.{EPOCH_YEARS, igrf_day, same_year}
 use Rattle.tables.specs.Degree.{degree_of}
 use Rattle.lists.specs.Profile.{forecast_verdict, pair_verdict}
 use Rattle.sums.specs.Arithmetic.{Arithmetic, sizes, unrounded}
-use Rattle.sums.specs.Paths.{between, five, nought, passing}
+use Rattle.sums.specs.Recurrence.{Input}
+use Rattle.sums.specs.Paths.{between, five, nought, passing, path_x, path_y, path_z, placed}
 use Rattle.synthesis.specs.declared.Xyz.{Xyz}
 use Rattle.synthesis.specs.Code.{first}
-use Rattle.field.specs.Field.{Asked, field_x, field_y, field_z, place_verdict, strengths_of}
+use Rattle.field.specs.Turn.{turn_x, turn_z}
+use Rattle.field.specs.Field.{Asked, field_x, field_y, field_z, handed, place_verdict, strengths_of}
 use Rattle.field.specs.There.{there_x, there_y, there_z}
 use Rattle.field.specs.Rated.{component_rates, no_time, rated}
 use Rattle.igrf.specs.declared.IgrfAnswer.{IgrfAnswer}
@@ -60,7 +62,11 @@ mixed a =
       h_dot = fifths a.one.h a.second_h;
     }
 
--- what X, Y and Z are worked out of: before 2025 that, and else the first set as it is
+-- ---- the answer: X, Y and Z, each operation rounded once
+unfoldable pub components_of : Profile → Bool → EpochOffset → Xyz
+components_of a soon e = strengths_of (cond soon (mixed a) a.one) e
+
+-- what they are worked out of: before 2025 the interpolation, and else the first set as it is
 unfoldable pub chosen : Profile → Bool → Asked
 chosen a soon = cond soon (mixed a) a.one
 
@@ -68,30 +74,40 @@ chosen a soon = cond soon (mixed a) a.one
 abbrev pub found_by : (as-rates : Bool) → Asked → EpochOffset → Xyz
 found_by as-rates q e = cond as-rates (component_rates q) (strengths_of q e)
 
--- ---- the exact field and its exact rates, over any arithmetic: the interpolation as it stands
-module _ {A : Type 0} (o : Arithmetic A) (a : Profile) where
+-- ---- the exact field, over any arithmetic: it interpolates as it stands
+unfoldable pub across : {A : Type 0} → Arithmetic A → Profile → EpochOffset → Input A
+across o a e =
+    let s = handed a.one e in
+    placed s.cos_theta s.sin_theta s.sin_lambda s.cos_lambda s.ratio (between o a.one.g a.second_g e.offset) (between o a.one.h a.second_h e.offset)
+
+module _ {A : Type 0} (o : Arithmetic A) (a : Profile) (e : EpochOffset) where
   abbrev top : ℕ
   top = degree_of (length a.one.g)
 
-  -- before 2025: between the two sets
-  module _ (e : EpochOffset) where
-    abbrev g_then : ℕ → ℕ → A
-    g_then = between o a.one.g a.second_g e.offset
+  unfoldable pub across_x : A
+  across_x = turn_x o (handed a.one e).cos_theta (handed a.one e).sin_theta a.one.cos_phi a.one.sin_phi (path_x o (across o a e) top) (path_z o (across o a e) top)
 
-    abbrev h_then : ℕ → ℕ → A
-    h_then = between o a.one.h a.second_h e.offset
+  unfoldable pub across_y : A
+  across_y = path_y o (across o a e) top
 
-    module _ (soon : Bool) where
-      abbrev pub igrf_x : A
-      igrf_x = cond soon (there_x o a.one top g_then h_then) (field_x o a.one e)
+  unfoldable pub across_z : A
+  across_z = turn_z o (handed a.one e).cos_theta (handed a.one e).sin_theta a.one.cos_phi a.one.sin_phi (path_x o (across o a e) top) (path_z o (across o a e) top)
 
-      abbrev pub igrf_y : A
-      igrf_y = cond soon (there_y o a.one top g_then h_then) (field_y o a.one e)
+  module _ (soon : Bool) where
+    abbrev pub igrf_x : A
+    igrf_x = cond soon across_x (field_x o a.one e)
 
-      abbrev pub igrf_z : A
-      igrf_z = cond soon (there_z o a.one top g_then h_then) (field_z o a.one e)
+    abbrev pub igrf_y : A
+    igrf_y = cond soon across_y (field_y o a.one e)
 
-  -- the rates then: a fifth of the gap
+    abbrev pub igrf_z : A
+    igrf_z = cond soon across_z (field_z o a.one e)
+
+-- ---- its exact rates: before 2025 a fifth of the gap between the two sets
+module _ {A : Type 0} (o : Arithmetic A) (a : Profile) where
+  abbrev degree : ℕ
+  degree = degree_of (length a.one.g)
+
   abbrev g_rate : ℕ → ℕ → A
   g_rate = passing o a.one.g a.second_g
 
@@ -100,13 +116,13 @@ module _ {A : Type 0} (o : Arithmetic A) (a : Profile) where
 
   module _ (soon : Bool) where
     abbrev pub rate_x : A
-    rate_x = cond soon (there_x o a.one top g_rate h_rate) (field_x o (rated a.one) (no_time a.one))
+    rate_x = cond soon (there_x o a.one degree g_rate h_rate) (field_x o (rated a.one) (no_time a.one))
 
     abbrev pub rate_y : A
-    rate_y = cond soon (there_y o a.one top g_rate h_rate) (field_y o (rated a.one) (no_time a.one))
+    rate_y = cond soon (there_y o a.one degree g_rate h_rate) (field_y o (rated a.one) (no_time a.one))
 
     abbrev pub rate_z : A
-    rate_z = cond soon (there_z o a.one top g_rate h_rate) (field_z o (rated a.one) (no_time a.one))
+    rate_z = cond soon (there_z o a.one degree g_rate h_rate) (field_z o (rated a.one) (no_time a.one))
 
 -- demand 3: each component within the promised distance of the exact field, with the sizes as its majorant
 pub record IgrfClose (a : Profile) (soon : Bool) (e : EpochOffset) (v : Xyz) : Type 0 where
@@ -133,22 +149,28 @@ years_found true of_day one two =
 years_found false of_day one two = check (same_year one of_day) (OtherEpoch of_day one) Verdict.Accepted
 
 -- from the day on, for its epoch and offset e
-abbrev pub day_shows : (as-rates : Bool) → Profile → Bool → EpochOffset → Paper Xyz
-day_shows as-rates a soon e =
+abbrev pub day_shows : Profile → Bool → EpochOffset → Paper Xyz
+day_shows a soon e = told (lists_found a soon) (told (years_found soon e.epoch_year a.one.set_epoch a.second_epoch) (answered (components_of a soon e)))
+
+-- by document 02's order: 1, 2, 3, 4, 5, 6, 23, 22, 7, 8, then X, Y and Z
+unfoldable pub igrf_says : Profile → (year day : ℤ) → Paper Xyz
+igrf_says a year day =
+    told (place_verdict a.one.height a.one.sin_phi a.one.cos_phi a.one.sin_lambda a.one.cos_lambda) (after (igrf_day year day) (day_shows a (early year)))
+
+-- the same of X, Y and Z or of their rates
+abbrev pub day_shows_by : (as-rates : Bool) → Profile → Bool → EpochOffset → Paper Xyz
+day_shows_by as-rates a soon e =
     told (lists_found a soon) (told (years_found soon e.epoch_year a.one.set_epoch a.second_epoch) (answered (found_by as-rates (chosen a soon) e)))
 
--- by document 02's order: 1, 2, 3, 4, 5, 6, 23, 22, 7, 8, then X, Y and Z or their rates
-unfoldable pub igrf_by : (as-rates : Bool) → Profile → (year day : ℤ) → Paper Xyz
-igrf_by as-rates a year day =
-    told (place_verdict a.one.height a.one.sin_phi a.one.cos_phi a.one.sin_lambda a.one.cos_lambda) (after (igrf_day year day) (day_shows as-rates a (early year)))
+-- the yearly rates of X, Y and Z, by the same order
+unfoldable pub rate_says : Profile → (year day : ℤ) → Paper Xyz
+rate_says a year day =
+    told (place_verdict a.one.height a.one.sin_phi a.one.cos_phi a.one.sin_lambda a.one.cos_lambda) (after (igrf_day year day) (day_shows_by true a (early year)))
 
--- X, Y and Z
-abbrev pub igrf_says : Profile → (year day : ℤ) → Paper Xyz
-igrf_says = igrf_by false
-
--- their yearly rates
-abbrev pub rate_says : Profile → (year day : ℤ) → Paper Xyz
-rate_says = igrf_by true
+-- the one or the other
+abbrev pub igrf_by : (as-rates : Bool) → Profile → (year day : ℤ) → Paper Xyz
+igrf_by false a year day = igrf_says a year day
+igrf_by true a year day = rate_says a year day
 
 -- the paper's number and values of each case of the answer
 abbrev pub said : IgrfAnswer → Paper Xyz

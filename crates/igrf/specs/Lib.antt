@@ -1,3 +1,2 @@
--- Definitions: Igrf, and Across, which says X, Y and Z between two sets in one page.
+-- Definitions: Igrf.
 pub mod Igrf
-pub mod Across

@@ -16,7 +16,7 @@ ghost use Rattle.lists.specs.Profile.{forecast_verdict, pair_verdict};
 ghost use Rattle.synthesis.specs.Sum.{offset_ok};
 ghost use Rattle.field.specs.Field.{asked, strengths_of};
 ghost use Rattle.igrf.specs.Igrf as igrfs;
-ghost use Rattle.igrf.specs.Igrf.{IgrfClose, RateClose, day_shows, fifths, found_by, igrf_by, igrf_says, profile, rate_says, said, years_found};
+ghost use Rattle.igrf.specs.Igrf.{IgrfClose, RateClose, day_shows_by, fifths, found_by, igrf_by, igrf_says, profile, rate_says, said, years_found};
 
 use field::{Latitude, check_place, turn};
 use geocentric::{geodetic_to_geocentric, radius_ratio};
@@ -208,7 +208,7 @@ fn on_day(
 ) -> IgrfAnswer
     requires t { T (height_ok height) × T (latitude_ok latitude.sin latitude.cos) × T (circle longitude.sin longitude.cos) × T (offset_ok e.offset) }
     requires pos_value { (lt_z e.epoch_year (pos 0) ≡ false) × (lt_z (pos 2029) e.epoch_year ≡ false) }
-    ensures { said result ≡ day_shows as_rates (profile (asked height latitude.sin latitude.cos longitude.sin longitude.cos epoch_year g.now h.now g_dot.now h_dot.now) second_epoch_year second_g.now second_h.now) soon e }
+    ensures { said result ≡ day_shows_by as_rates (profile (asked height latitude.sin latitude.cos longitude.sin longitude.cos epoch_year g.now h.now g_dot.now h_dot.now) second_epoch_year second_g.now second_h.now) soon e }
 {
     if let Verdict::Refused(k) = check_read(soon, g, h, g_dot, h_dot, second_g, second_h) {
         return IgrfAnswer::Refused(k);

@@ -1,5 +1,5 @@
 -- How large the rates of X, Y and Z that Field answers with can be: the laws of field/proofs/Reach.antt, read with every rate at its cap and no time passed. Assumes nothing.
-use Rattle.std.proofs.Common.{◌≡◌, refl, ℕ, ◌+◌, ◌-◌, ◌*◌, ◌^◌, ◌≤◌, ℤ}
+use Rattle.std.proofs.Common.{◌≡◌, refl, ℕ, ◌-◌, ◌*◌, ◌^◌, ◌≤◌, ℤ}
 use lib.Dec.{lit≤}
 use lib.Ieee.{of_bits, of_int, binary32, round}
 use Rattle.exact.specs.Exact.{inv_e, own}

@@ -31,7 +31,7 @@ gap o first second n m = o.over (o.less (o.num (at second n m)) (o.num (at first
 
 -- a coefficient at the date, between two such lists: first + offset·((second - first) / 5)
 abbrev pub between : {A : Type 0} → Arithmetic A → List Float → List Float → Float → ℕ → ℕ → A
-between o first second t n m = coefficient o (o.num (at first n m)) (gap o first second n m) (o.num t)
+between o first second t n m = coefficient o (o.num (at first n m)) (o.over (o.less (o.num (at second n m)) (o.num (at first n m))) five) (o.num t)
 
 -- that rate in the place of a coefficient, with no time passed
 abbrev pub passing : {A : Type 0} → Arithmetic A → List Float → List Float → ℕ → ℕ → A

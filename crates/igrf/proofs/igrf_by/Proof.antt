@@ -8,7 +8,7 @@ use Rattle.models.specs.declared.epochs.EpochOffset.{EpochOffset}
 use Rattle.models.specs.Epochs.{igrf_day}
 use Rattle.models.specs.Epochs as epochs
 use Rattle.field.specs.Field.{asked}
-use Rattle.igrf.specs.Igrf.{Profile, day_shows, early, profile, said}
+use Rattle.igrf.specs.Igrf.{Profile, day_shows_by, early, profile, said}
 use Rattle.igrf.proofs.Laws.{day_answered, day_good, day_refused, of_place, place_good, place_refused}
 use Rattle.igrf.proofs.igrf_by.Statement.{statement}
 use Rattle.igrf.proofs.igrf_by.Tie as tie
@@ -92,7 +92,7 @@ module _ (c : tie.After-on_day) where
       let y = (start here).args.day.year in
       rw (to_z-of_z w32 y (record { sfits = c.struct_told-in-Epoch-1.given.0.1 })) at c.early.ensures
 
-  on_day_said : said c.on_day.result ≡ day_shows (start here).args.as_rates (asks (start here)) (early (start here).args.day.year) of_day
+  on_day_said : said c.on_day.result ≡ day_shows_by (start here).args.as_rates (asks (start here)) (early (start here).args.day.year) of_day
   on_day_said =
       let s = start here in
       let a = s.args in
