@@ -1,4 +1,4 @@
-//! The square root over whole numbers, step by step as the Rattle library has it, held to the
+//! The square root over whole numbers, by the steps of the Rattle library, held to the
 //! machine's own root on every pattern that is not negative.
 use std::thread;
 use std::time::Instant;
@@ -16,7 +16,8 @@ fn guess(x: u64) -> u64 {
     }
 }
 
-/// The whole number nearest to the root of x, by halving.
+/// The whole number nearest to the root of x, by halving. The library takes it from `isqrt`: it is the
+/// same number.
 fn halved_root(x: u64) -> u64 {
     let mut low: u64 = 8388608;
     let mut high: u64 = 16777216;

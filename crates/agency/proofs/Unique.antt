@@ -1,7 +1,7 @@
 -- The public contract leaves one result: the law is over what the kit makes of the function's `ensures`.
 use mathlib.Core.Path.{sym, ap, ◌∙◌}
 use Rattle.refusals.specs.OneResult.{OneResult}
-use Rattle.lists.proofs.Sets.{said_one}
+use Rattle.refusals.proofs.Laws.{said_one}
 use Rattle.lists.specs.Sets.{Left}
 use Rattle.agency.proofs.read as read_fn
 

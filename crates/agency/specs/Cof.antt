@@ -1,11 +1,10 @@
 -- The agency's file (document 02, Wish 1): header, ninety lines, then nines. Definitions only.
-use Rattle.std.specs.Prelude.{Bool, ◌&&◌, cond, List, [], ◌∷◌, map, ℕ, zero, suc, ◌+◌, eqb, ℤ}
-use Rattle.refusals.specs.Paper.{Paper, answered, paper, unless, after, told, check}
+use Rattle.std.specs.Prelude.{Bool, ◌&&◌, cond, List, [], ◌∷◌, map, ℕ, zero, suc, ◌+◌, eqb, ℤ, Option, Some, None}
+use Rattle.refusals.specs.Paper.{Paper, Verdict, accepted, answered, paper, unless, after, told, check}
 use Rattle.refusals.specs.declared.Refusal.TheVariants.{Malformed, OutOfOrder}
-use Rattle.refusals.specs.declared.Verdict.{Verdict}
 use Rattle.tables.specs.Degree.{N_COEFF}
 use Rattle.lists.specs.Sets.{Left, Lists, ModelSet, lists_of, read_into, set_verdict}
-use Rattle.text.specs.Decimals.{Read, read, malformed, whole_of}
+use Rattle.text.specs.Decimals.{whole_of}
 use Rattle.text.specs.Reading.{next_word}
 use Rattle.text.specs.Lines.{lines}
 use Rattle.text.specs.Words.{words}
@@ -15,9 +14,9 @@ use Rattle.agency.specs.Entries.{entry_of, equals, nines}
 
 -- ---- the header
 -- its first word is the epoch, a whole year; what follows on the line is free
-abbrev pub year_says : Read (ℤ × List (List ℕ)) → Paper ℤ
-year_says (read y) = answered y.0
-year_says malformed = paper (Malformed 1)
+abbrev pub year_says : Option (ℤ × List (List ℕ)) → Paper ℤ
+year_says (Some y) = answered y.0
+year_says None = paper (Malformed 1)
 
 -- the epoch year, and the lines after the header
 abbrev pub header_says : List (List ℕ) → Paper (ℤ × List (List ℕ))
@@ -33,9 +32,9 @@ unfoldable pub following : Place → Place
 following p = cond (eqb p.order p.degree) (record { degree = p.degree + 1; order = 0 }) (record { degree = p.degree; order = p.order + 1 })
 
 -- line i, where p is due: 14 for another degree and order and for nines, 13 for a line that is malformed
-abbrev pub placed : ℕ → Place → Bool → Read Entry → Paper Entry
-placed i p nine (read e) = unless (equals e.degree p.degree && equals e.order p.order) (paper (OutOfOrder i)) (answered e)
-placed i p nine malformed = unless nine (paper (Malformed i)) (paper (OutOfOrder i))
+abbrev pub placed : ℕ → Place → Bool → Option Entry → Paper Entry
+placed i p nine (Some e) = unless (equals e.degree p.degree && equals e.order p.order) (paper (OutOfOrder i)) (answered e)
+placed i p nine None = unless nine (paper (Malformed i)) (paper (OutOfOrder i))
 
 -- the coefficients of line i, and the lines after it; 14 where the file ends
 abbrev pub row_says : ℕ → Place → List (List ℕ) → Paper (Entry × List (List ℕ))
@@ -44,7 +43,7 @@ row_says i p (l ∷ ls) = after (placed i p (nines l) (entry_of (words l))) (λ 
 
 -- after them, from line i on: lines of nines alone
 unfoldable pub nines_verdict : ℕ → List (List ℕ) → Verdict
-nines_verdict i [] = Verdict.Accepted
+nines_verdict i [] = accepted
 nines_verdict i (l ∷ ls) = check (nines l) (Malformed i) (nines_verdict (suc i) ls)
 
 -- k coefficient lines from line i on, where p is due, then nines

@@ -1,48 +1,18 @@
 // One line: its words, a coefficient line, a line of nines.
-ghost use Rattle.std.specs.Prelude.{◌≡◌, ◌||◌, ◌≤◌, eqb, length, drop};
-ghost use Rattle.text.specs.Bytes.{blank};
+ghost use Rattle.std.specs.Prelude.{◌≡◌, drop, slice_range};
 ghost use Rattle.text.specs.Decimals.{number_of, whole_of};
-ghost use Rattle.text.specs.Reading.{next_word, two_words};
-ghost use Rattle.text.specs.Words.{words};
-ghost use Rattle.agency.specs.Entries as entries;
-ghost use Rattle.agency.specs.Entries.{entry_of, equals, nines, none, only_nines, some_nine};
-ghost use Rattle.agency.specs.Code.{TakenAt, WordFrom, whole_at, number_at, wholes_at, numbers_at, entry_said};
+ghost use Rattle.text.specs.Reading.{next_word, with_rest};
+ghost use Rattle.text.specs.Words.{first_word, words};
+ghost use Rattle.agency.specs.Entries.{entry_of, nines, none, only_nines};
 
-use text::{FirstWord, NumberAnswer, WholeAnswer};
+use text::FirstWord;
 
-const NINE: u8 = 57;
+const NINE: u8 = b'9';
 
-// A word as a whole number, and the place after it.
-#[derive(Clone, Copy)]
-pub enum WholeAt {
-    Whole { value: i32, next: usize },
-    Malformed,
-}
-
-#[derive(Clone, Copy)]
-enum NumberAt {
-    Number { value: f32, next: usize },
-    Malformed,
-}
-
-#[derive(Clone, Copy)]
-enum WholesAt {
-    Wholes {
-        first: i32,
-        second: i32,
-        next: usize,
-    },
-    Malformed,
-}
-
-#[derive(Clone, Copy)]
-enum NumbersAt {
-    Numbers {
-        first: f32,
-        second: f32,
-        next: usize,
-    },
-    Malformed,
+// The words of a line, read from its front.
+#[derive(Drop)]
+pub struct Words<'a> {
+    pub rest: &'a [u8],
 }
 
 // A coefficient line.
@@ -56,126 +26,51 @@ pub struct Entry {
     pub h_dot: f32,
 }
 
-#[derive(Clone, Copy)]
-pub enum EntryAnswer {
-    Entry(Entry),
-    Malformed,
-}
+impl<'a> Words<'a> {
+    // The next word. Where there is none it is empty, which is no number.
+    fn next(&mut self) -> &'a [u8]
+        ensures word { let w = first_word self.old.rest.now in result.now ≡ slice_range self.old.rest.now w.start w.end }
+        ensures rest { self.new.rest.now ≡ drop (first_word self.old.rest.now).end self.old.rest.now }
+    {
+        let FirstWord { word, rest } = text::first_word(self.rest);
+        self.rest = rest;
+        word
+    }
 
-// The first word from `from` on. Where there is none it is empty, which is no number.
-fn word_from(line: &[u8], from: usize) -> FirstWord
-    requires { from ≤ length line.now }
-    ensures word_from { WordFrom line.now from result }
-    ensures start_le_end { (result.start ≤ result.end) × (result.end ≤ length line.now) }
-{
-    let w = text::first_word(&line[from..]);
-    FirstWord {
-        start: from + w.start,
-        end: from + w.end,
+    pub fn whole(&mut self) -> Option<i32>
+        ensures { with_rest result (words self.new.rest.now) ≡ next_word whole_of (words self.old.rest.now) }
+    {
+        text::read_whole(self.next())
+    }
+
+    fn number(&mut self) -> Option<f32>
+        ensures { with_rest result (words self.new.rest.now) ≡ next_word number_of (words self.old.rest.now) }
+    {
+        text::read_number(self.next())
+    }
+
+    // No word is left.
+    fn is_end(&self) -> bool
+        ensures { result ≡ none (words self.now.rest.now) }
+    {
+        text::first_word(self.rest).word.is_empty()
     }
 }
 
-pub fn whole_at(line: &[u8], from: usize) -> WholeAt
-    requires { from ≤ length line.now }
-    ensures { TakenAt (next_word whole_of (words (drop from line.now))) line.now (whole_at result) }
+pub fn read_entry(line: &[u8]) -> Option<Entry>
+    ensures { result ≡ entry_of (words line.now) }
 {
-    let w = word_from(line, from);
-    let start = w.start;
-    let end = w.end;
-    match text::read_whole(&line[start..end]) {
-        WholeAnswer::Whole(value) => WholeAt::Whole { value, next: end },
-        WholeAnswer::Malformed => WholeAt::Malformed,
+    let mut words = Words { rest: line };
+    let degree = words.whole()?;
+    let order = words.whole()?;
+    let g = words.number()?;
+    let h = words.number()?;
+    let g_dot = words.number()?;
+    let h_dot = words.number()?;
+    if !words.is_end() {
+        return None;
     }
-}
-
-fn number_at(line: &[u8], from: usize) -> NumberAt
-    requires { from ≤ length line.now }
-    ensures { TakenAt (next_word number_of (words (drop from line.now))) line.now (number_at result) }
-{
-    let w = word_from(line, from);
-    let start = w.start;
-    let end = w.end;
-    match text::read_number(&line[start..end]) {
-        NumberAnswer::Number(value) => NumberAt::Number { value, next: end },
-        NumberAnswer::Malformed => NumberAt::Malformed,
-    }
-}
-
-// Two words alike.
-fn wholes_at(line: &[u8], from: usize) -> WholesAt
-    requires { from ≤ length line.now }
-    ensures { TakenAt (two_words whole_of (words (drop from line.now))) line.now (wholes_at result) }
-{
-    let WholeAt::Whole { value: first, next } = whole_at(line, from) else {
-        return WholesAt::Malformed;
-    };
-    match whole_at(line, next) {
-        WholeAt::Whole { value, next } => WholesAt::Wholes {
-            first,
-            second: value,
-            next,
-        },
-        WholeAt::Malformed => WholesAt::Malformed,
-    }
-}
-
-fn numbers_at(line: &[u8], from: usize) -> NumbersAt
-    requires { from ≤ length line.now }
-    ensures { TakenAt (two_words number_of (words (drop from line.now))) line.now (numbers_at result) }
-{
-    let NumberAt::Number { value: first, next } = number_at(line, from) else {
-        return NumbersAt::Malformed;
-    };
-    match number_at(line, next) {
-        NumberAt::Number { value, next } => NumbersAt::Numbers {
-            first,
-            second: value,
-            next,
-        },
-        NumberAt::Malformed => NumbersAt::Malformed,
-    }
-}
-
-// No word is left from `from` on.
-fn is_end(line: &[u8], from: usize) -> bool
-    requires { from ≤ length line.now }
-    ensures { result ≡ none (words (drop from line.now)) }
-{
-    let w = word_from(line, from);
-    w.start == line.len()
-}
-
-pub fn read_entry(line: &[u8]) -> EntryAnswer
-    ensures { entry_said result ≡ entry_of (words line.now) }
-{
-    let WholesAt::Wholes {
-        first: degree,
-        second: order,
-        next: main,
-    } = wholes_at(line, 0)
-    else {
-        return EntryAnswer::Malformed;
-    };
-    let NumbersAt::Numbers {
-        first: g,
-        second: h,
-        next: rate,
-    } = numbers_at(line, main)
-    else {
-        return EntryAnswer::Malformed;
-    };
-    let NumbersAt::Numbers {
-        first: g_dot,
-        second: h_dot,
-        next: end,
-    } = numbers_at(line, rate)
-    else {
-        return EntryAnswer::Malformed;
-    };
-    if !is_end(line, end) {
-        return EntryAnswer::Malformed;
-    }
-    EntryAnswer::Entry(Entry {
+    Some(Entry {
         degree,
         order,
         g,
@@ -185,57 +80,15 @@ pub fn read_entry(line: &[u8]) -> EntryAnswer
     })
 }
 
-// The whole number z is n.
-pub fn is_number(z: i32, n: usize) -> bool
-    ensures { result ≡ equals z n }
-{
-    if z < 0 {
-        return false;
-    }
-    z as usize == n
-}
-
-fn nine_or_blank(c: u8) -> bool
-    ensures { result ≡ eqb c entries.NINE || blank c }
-{
-    if c == NINE {
-        return true;
-    }
-    text::is_blank(c)
-}
-
 fn only_nines(line: &[u8]) -> bool
     ensures { result ≡ only_nines line.now }
 {
-    let mut i = 0usize;
-    while i < line.len() {
-        if !nine_or_blank(line[i]) {
-            return false;
-        }
-        i += 1;
-    }
-    true
-}
-
-fn some_nine(line: &[u8]) -> bool
-    ensures { result ≡ some_nine line.now }
-{
-    let mut i = 0usize;
-    while i < line.len() {
-        if line[i] == NINE {
-            return true;
-        }
-        i += 1;
-    }
-    false
+    line.iter().all(|c| *c == NINE || text::is_blank(*c))
 }
 
 // One word or more, of the digit 9 alone.
 pub fn is_nines(line: &[u8]) -> bool
     ensures { result ≡ nines line.now }
 {
-    if !only_nines(line) {
-        return false;
-    }
-    some_nine(line)
+    only_nines(line) && line.contains(&NINE)
 }

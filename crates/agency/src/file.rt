@@ -1,16 +1,16 @@
 // The file's lines: header, ninety lines, then nines.
-ghost use Rattle.std.specs.Prelude.{◌≡◌, ◌&&◌, ◌∷◌, ◌+◌, ◌-◌, ◌≤◌, ◌<◌, length, drop, take};
-ghost use Rattle.tables.specs.Degree.{N_COEFF};
+ghost use Rattle.std.specs.Prelude.{◌≡◌, ◌&&◌, [], ◌∷◌, ◌+◌, ◌<◌, ◌^◌, length, IfOk, MatchOption, OnOk, OnSome};
+ghost use Rattle.refusals.specs.Paper.{said};
 ghost use Rattle.text.specs.Lines.{lines};
 ghost use Rattle.text.specs.Words.{words};
+ghost use Rattle.lists.specs.Sets.{Ninety};
 ghost use Rattle.agency.specs.Entries.{entry_of, equals, nines};
-ghost use Rattle.lists.specs.Sets.{Ninety, lists_of, said};
-ghost use Rattle.agency.specs.Cof.{file_says, first, following, header_says, nines_verdict, placed, row_says, rows_say};
-ghost use Rattle.agency.specs.Code.{Filled, LineTaken, RowsFilled, header_at, placed_said, row_at};
+ghost use Rattle.agency.specs.Code.{set_of, set_said};
+ghost use Rattle.agency.specs.Cof.{file_says, following, header_says, nines_verdict, placed, row_says};
 
 use crate::entries;
-use crate::entries::{Entry, EntryAnswer, WholeAt};
-use lists::ReadAnswer;
+use crate::entries::{Entry, Words};
+use lists::Lists;
 use refusals::{Refusal, Verdict};
 use tables::N_COEFF;
 use text::FirstLine;
@@ -22,203 +22,167 @@ struct Place {
     order: usize,
 }
 
-#[derive(Clone, Copy)]
-enum HeaderAnswer {
-    Header { year: i32, next: usize },
-    Refused(Refusal),
+impl Place {
+    // The place that is due after this one.
+    fn following(self) -> Place
+        requires degree_bound { self.degree < 1000 }
+        requires order_bound { self.order < 1000 }
+        ensures { result ≡ following self }
+    {
+        if self.order == self.degree {
+            return Place {
+                degree: self.degree + 1,
+                order: 0,
+            };
+        }
+        Place {
+            order: self.order + 1,
+            ..self
+        }
+    }
+
+    // The entry's degree and order are these.
+    fn is_of(self, entry: Entry) -> bool
+        ensures { result ≡ equals entry.degree self.degree && equals entry.order self.order }
+    {
+        usize::try_from(entry.degree) == Ok(self.degree)
+            && usize::try_from(entry.order) == Ok(self.order)
+    }
 }
 
-#[derive(Clone, Copy)]
-struct Row {
-    entry: Entry,
-    next: usize,
+// A file's set, in lists of its own: four, as a set is lent.
+#[derive(Drop)]
+pub struct FileSet {
+    pub epoch_year: i32,
+    pub g: [f32; N_COEFF],
+    pub h: [f32; N_COEFF],
+    pub g_dot: [f32; N_COEFF],
+    pub h_dot: [f32; N_COEFF],
 }
 
-#[derive(Clone, Copy)]
-enum RowAnswer {
-    Row(Row),
-    Refused(Refusal),
+impl FileSet {
+    ghost use Rattle.agency.specs.Code.{lent_set, set_of};
+
+    pub fn lists(&self) -> Lists<'_>
+        ensures { lent_set result ≡ (set_of self.now).lists }
+    {
+        Lists {
+            g: &self.g,
+            h: &self.h,
+            g_dot: &self.g_dot,
+            h_dot: &self.h_dot,
+        }
+    }
 }
 
-#[derive(Clone, Copy)]
-enum PlacedAnswer {
-    Entry(Entry),
-    Refused(Refusal),
-}
-
-// The line that starts at `at`.
-fn line_from(text: &[u8], at: usize) -> FirstLine
-    requires { at < length text.now }
-    ensures text_value { lines (drop at text.now) ≡ take (result.end - at) (drop at text.now) ∷ lines (drop result.next text.now) }
-    ensures at_le_end { (at ≤ result.end) × (result.end ≤ length text.now) × (at < result.next) × (result.next ≤ length text.now) }
+// Line `number`, where `due` is due.
+fn placed(line: &[u8], due: Place, number: usize) -> Result<Entry, Refusal>
+    ensures { said result ≡ placed number due (nines line.now) (entry_of (words line.now)) }
 {
-    let l = text::first_line(&text[at..]);
-    FirstLine {
-        end: at + l.end,
-        next: at + l.next,
+    let Some(entry) = entries::read_entry(line) else {
+        if entries::is_nines(line) {
+            return Err(Refusal::OutOfOrder { line: number });
+        }
+        return Err(Refusal::Malformed { line: number });
+    };
+    if !due.is_of(entry) {
+        return Err(Refusal::OutOfOrder { line: number });
     }
+    Ok(entry)
 }
 
-// The epoch year of the first line, and where the next one starts.
-fn header(text: &[u8]) -> HeaderAnswer
-    ensures { LineTaken (header_says (lines text.now)) text.now 0 (header_at result) }
-{
-    if text.len() == 0 {
-        return HeaderAnswer::Refused(Refusal::OutOfOrder { line: 1 });
-    }
-    let l = line_from(text, 0);
-    let end = l.end;
-    match entries::whole_at(&text[0..end], 0) {
-        WholeAt::Whole { value, .. } => HeaderAnswer::Header {
-            year: value,
-            next: l.next,
-        },
-        WholeAt::Malformed => HeaderAnswer::Refused(Refusal::Malformed { line: 1 }),
-    }
+// The lines of a text, read from its front: what is left, and the number of the line that comes next.
+#[derive(Drop)]
+struct TextLines<'a> {
+    rest: &'a [u8],
+    number: usize,
+    // Each line takes a byte at least, so the number fits.
+    ghost in_range: { number + length rest.now < 2 ^ 64 },
 }
 
-fn following(p: Place) -> Place
-    requires degree_bound { p.degree < 1000 }
-    requires order_bound { p.order < 1000 }
-    ensures { result ≡ following p }
-{
-    if p.order == p.degree {
-        return Place {
-            degree: p.degree + 1,
-            order: 0,
-        };
-    }
-    Place {
-        degree: p.degree,
-        order: p.order + 1,
-    }
-}
+impl<'a> TextLines<'a> {
+    ghost use Rattle.agency.specs.Code.{taken};
 
-fn is_due(e: Entry, p: Place) -> bool
-    ensures { result ≡ equals e.degree p.degree && equals e.order p.order }
-{
-    if !entries::is_number(e.degree, p.degree) {
-        return false;
+    // The next line, where the text goes on.
+    fn next(&mut self) -> Option<&'a [u8]>
+        ensures line { MatchOption result (lines self.old.rest.now ≡ []) (λ l. lines self.old.rest.now ≡ l.now ∷ lines self.new.rest.now) }
+        ensures number { OnSome result (self.new.number ≡ self.old.number + 1) }
+        ensures shorter { OnSome result (length self.new.rest.now < length self.old.rest.now) }
+    {
+        if self.rest.is_empty() {
+            return None;
+        }
+        let FirstLine { line, rest } = text::first_line(self.rest);
+        self.rest = rest;
+        self.number += 1;
+        Some(line)
     }
-    entries::is_number(e.order, p.order)
-}
 
-// A line, where the place p is due.
-fn placed(line: &[u8], p: Place, number: usize) -> PlacedAnswer
-    ensures { placed_said result ≡ placed number p (nines line.now) (entry_of (words line.now)) }
-{
-    match entries::read_entry(line) {
-        EntryAnswer::Entry(e) => {
-            if is_due(e, p) {
-                return PlacedAnswer::Entry(e);
+    // The epoch year of the first line.
+    fn header(&mut self) -> Result<i32, Refusal>
+        ensures header { taken result self.new.rest.now ≡ header_says (lines self.old.rest.now) }
+        ensures number { OnOk result (self.new.number ≡ self.old.number + 1) }
+    {
+        let line = self.next().ok_or(Refusal::OutOfOrder { line: 1 })?;
+        Words { rest: line }
+            .whole()
+            .ok_or(Refusal::Malformed { line: 1 })
+    }
+
+    // The next coefficient line, where `due` is due. At the end of the text there is none.
+    fn row(&mut self, due: Place) -> Result<Entry, Refusal>
+        ensures row { taken result self.new.rest.now ≡ row_says self.old.number due (lines self.old.rest.now) }
+        ensures number { OnOk result (self.new.number ≡ self.old.number + 1) }
+    {
+        let number = self.number;
+        let line = self.next().ok_or(Refusal::OutOfOrder { line: number })?;
+        placed(line, due, number)
+    }
+
+    // Only lines of nines are left.
+    fn nines(&mut self) -> Verdict
+        ensures { result ≡ nines_verdict self.old.number (lines self.old.rest.now) }
+    {
+        let mut number = self.number;
+        while let Some(line) = self.next() {
+            if !entries::is_nines(line) {
+                return Err(Refusal::Malformed { line: number });
             }
-            PlacedAnswer::Refused(Refusal::OutOfOrder { line: number })
+            number = self.number;
         }
-        EntryAnswer::Malformed => {
-            if entries::is_nines(line) {
-                return PlacedAnswer::Refused(Refusal::OutOfOrder { line: number });
-            }
-            PlacedAnswer::Refused(Refusal::Malformed { line: number })
-        }
+        Ok(())
     }
 }
 
-// The coefficient line that starts at `at`, where the place p is due. At the end of the text there is
-// none.
-fn read_row(text: &[u8], at: usize, p: Place, number: usize) -> RowAnswer
-    requires { at ≤ length text.now }
-    ensures { LineTaken (row_says number p (lines (drop at text.now))) text.now at (row_at result) }
+// All lines: the header, a coefficient line for each degree and order, then nines.
+pub fn read(text: &[u8]) -> Result<FileSet, Refusal>
+    ensures set { set_said result ≡ file_says (lines text.now) }
+    ensures ninety { IfOk result (λ s. Ninety (set_of s).lists) }
 {
-    if at == text.len() {
-        return RowAnswer::Refused(Refusal::OutOfOrder { line: number });
-    }
-    let l = line_from(text, at);
-    let end = l.end;
-    match placed(&text[at..end], p, number) {
-        PlacedAnswer::Entry(entry) => RowAnswer::Row(Row {
-            entry,
-            next: l.next,
-        }),
-        PlacedAnswer::Refused(k) => RowAnswer::Refused(k),
-    }
-}
-
-// Only lines of nines, from line `number` on. Each line takes a byte at least, so the number fits.
-fn nines_follow(text: &[u8], from: usize, number: usize) -> Verdict
-    requires from_in_bounds { from ≤ length text.now }
-    requires number_bound { number ≤ from + 1 }
-    ensures { result ≡ nines_verdict number (lines (drop from text.now)) }
-{
-    let mut at = from;
-    let mut i = number;
-    while at < text.len() {
-        let l = line_from(text, at);
-        let end = l.end;
-        if !entries::is_nines(&text[at..end]) {
-            return Verdict::Refused(Refusal::Malformed { line: i });
-        }
-        at = l.next;
-        i += 1;
-    }
-    Verdict::Accepted
-}
-
-// The ninety lines into the four lists, and the nines after them.
-fn rows(
-    text: &[u8],
-    from: usize,
-    g: &mut [f32; N_COEFF],
-    h: &mut [f32; N_COEFF],
-    g_dot: &mut [f32; N_COEFF],
-    h_dot: &mut [f32; N_COEFF],
-) -> Verdict
-    requires from_in_bounds { from ≤ length text.now }
-    requires from_nonzero { 0 < from }
-    requires ninety { Ninety (lists_of g.old h.old g_dot.old h_dot.old) }
-    ensures ninety_2 { Ninety (lists_of g.new h.new g_dot.new h_dot.new) }
-    ensures rows_filled { RowsFilled (rows_say N_COEFF 2 first (lines (drop from text.now))) result (lists_of g.new h.new g_dot.new h_dot.new) }
-{
-    let mut at = from;
-    let mut p = Place {
+    let mut lines = TextLines {
+        rest: text,
+        number: 1,
+    };
+    let mut set = FileSet {
+        epoch_year: lines.header()?,
+        g: [0.0; N_COEFF],
+        h: [0.0; N_COEFF],
+        g_dot: [0.0; N_COEFF],
+        h_dot: [0.0; N_COEFF],
+    };
+    let mut due = Place {
         degree: 1,
         order: 0,
     };
-    let mut k = 0usize;
-    while k < N_COEFF {
-        match read_row(text, at, p, k + 2) {
-            RowAnswer::Refused(why) => return Verdict::Refused(why),
-            RowAnswer::Row(r) => {
-                let e = r.entry;
-                g[k] = e.g;
-                h[k] = e.h;
-                g_dot[k] = e.g_dot;
-                h_dot[k] = e.h_dot;
-                at = r.next;
-            }
-        }
-        p = following(p);
-        k += 1;
+    // One loop for degrees and orders: k is the place in the lists.
+    for k in 0..N_COEFF {
+        let entry = lines.row(due)?;
+        set.g[k] = entry.g;
+        set.h[k] = entry.h;
+        set.g_dot[k] = entry.g_dot;
+        set.h_dot[k] = entry.h_dot;
+        due = due.following();
     }
-    nines_follow(text, at, N_COEFF + 2)
-}
-
-// All lines. The lists are written as the file is read; `read` hands them on once nothing is refused.
-pub fn set(
-    text: &[u8],
-    g: &mut [f32; N_COEFF],
-    h: &mut [f32; N_COEFF],
-    g_dot: &mut [f32; N_COEFF],
-    h_dot: &mut [f32; N_COEFF],
-) -> ReadAnswer
-    requires { Ninety (lists_of g.old h.old g_dot.old h_dot.old) }
-    ensures ninety { Ninety (lists_of g.new h.new g_dot.new h_dot.new) }
-    ensures filled { Filled (file_says (lines text.now)) (said result) (lists_of g.new h.new g_dot.new h_dot.new) }
-{
-    match header(text) {
-        HeaderAnswer::Refused(k) => ReadAnswer::Refused(k),
-        HeaderAnswer::Header { year, next } => match rows(text, next, g, h, g_dot, h_dot) {
-            Verdict::Accepted => ReadAnswer::Epoch(year),
-            Verdict::Refused(k) => ReadAnswer::Refused(k),
-        },
-    }
+    lines.nines()?;
+    Ok(set)
 }

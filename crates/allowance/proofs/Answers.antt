@@ -1,9 +1,10 @@
 -- The ways to an answer of Allowance, what an answer covers, and one answer.
-use mathlib.Core.Path.{◌≡◌, sym, ap, ◌∙◌, subst}
+use mathlib.Core.Path.{◌≡◌, refl, sym, ap, ◌∙◌, subst}
 use lib.IntN.{ℤ}
 use lib.Ieee.{Float}
-use Rattle.refusals.specs.Paper.{Paper, answered, paper, after}
-use Rattle.refusals.proofs.Laws.{paper_one, no_answer, answered_one}
+use Rattle.std.specs.Prelude.{Ok, Err, IfOk, Result}
+use Rattle.refusals.specs.Paper.{Paper, answered, paper, after, said}
+use Rattle.refusals.proofs.Laws.{no_answer, answered_one, said_one}
 use Rattle.refusals.specs.declared.Refusal.{Refusal}
 use Rattle.models.specs.declared.epochs.EpochOffset.{EpochOffset}
 use Rattle.models.specs.Epochs.{epoch_year_of, epoch_says, epoch_offset}
@@ -17,22 +18,20 @@ use Rattle.field.specs.Field.{Asked, field_x, field_y, field_z, field_says, hand
 use Rattle.field.proofs.Answers.{after_answered, day_found, found}
 use Rattle.lists.specs.Lists.{Long}
 use Rattle.allowance.specs.declared.Allowances.{Allowances}
-use Rattle.allowance.specs.declared.AllowanceAnswer.{AllowanceAnswer}
-use Rattle.allowance.specs.declared.AllowanceAnswer.TheVariants as Answer
 use Rattle.bounds.specs.Bounds.{allowed}
 use Rattle.allowance.specs.Code.{majorants_of, turned_of}
-use Rattle.allowance.specs.Allowance.{Covered, allowances_of, allowance_says, said}
+use Rattle.allowance.specs.Allowance.{Covered, allowances_of, allowance_says}
 use Rattle.allowance.proofs.Laws.{covered}
 
 -- ---- from the majorants to the allowances
-pub shown : (a : Asked) (e : EpochOffset) (p : Geocentric) (q t : Float) (v u : Xyz) (x y z : Float)
-    → p ≡ geocentric_of a.height a.sin_phi a.cos_phi → q ≡ ratio_to p.r → t ≡ e.offset
-    → v ≡ majorants_of (lent p.cos_theta p.sin_theta a.sin_lambda a.cos_lambda q t a.g a.h a.g_dot a.h_dot)
-    → u ≡ turned_of v p.cos_theta p.sin_theta a.cos_phi a.sin_phi
+pub shown : (a : Asked) (e : EpochOffset) (p : Geocentric) (q : Float) (v u : Xyz) (x y z : Float)
+    → p ≡ geocentric_of a.height a.sin_phi a.cos_phi → q ≡ ratio_to p.r
+    → v ≡ majorants_of (lent p.cos_theta p.sin_theta a.sin_lambda a.cos_lambda q e.offset a.g a.h a.g_dot a.h_dot)
+    → u ≡ turned_of v p a.sin_phi a.cos_phi
     → x ≡ allowed u.x → y ≡ allowed u.y → z ≡ allowed u.z
     → record { x = x; y = y; z = z } ≡ allowances_of a e
 unfolding turned_of field_x field_y field_z handed geocentric_of ratio_of
-shown a e p q t v u x y z ep eq et ev eu ex ey ez = rw (ex, ey, ez, eu, ev, et, eq, ep)
+shown a e p q v u x y z ep eq ev eu ex ey ez = rw (ex, ey, ez, eu, ev, eq, ep)
 
 -- ---- the entry
 module _ (a : Asked) (year day : ℤ) where
@@ -60,7 +59,7 @@ module _ (a : Asked) (year day : ℤ) where
         ap answered (er ∙ ap (allowances_of a) ee) ∙ ap (λ (q : Paper GeomagneticField). after q (λ v. answered (allowances_of a (epoch_offset year day)))) h
 
 -- an answer covers demand 3's allowance
-pub answer_covers : (a : Asked) (year day : ℤ) (r : AllowanceAnswer) → said r ≡ allowance_says a year day → (v : Allowances) → r ≡ Answer.Allowance v → Covered a (epoch_offset year day) v
+pub answer_covers : (a : Asked) (year day : ℤ) (r : Result Allowances Refusal) → said r ≡ allowance_says a year day → (v : Allowances) → r ≡ Ok v → Covered a (epoch_offset year day) v
 unfolding allowance_says field_says
 answer_covers a year day r h v e =
     let o = epoch_offset year day in
@@ -68,12 +67,11 @@ answer_covers a year day r h v e =
     let f = found (error_says (epoch_year_of year)) a year day q.0 q.1.0 in
     subst (λ (u : Allowances). Covered a o u) (answered_one (allowances_of a o) v q.1.1) (covered a o f.accepted f.lists)
 
+-- the same, of the result
+pub covers_if : (a : Asked) (year day : ℤ) (r : Result Allowances Refusal) → said r ≡ allowance_says a year day → IfOk r (λ v. Covered a (epoch_offset year day) v)
+covers_if a year day (Ok v) h = answer_covers a year day (Ok v) h v refl
+covers_if a year day (Err k) h = tt
+
 -- any two answers that the contract allows are equal
-pub allowance_answer_one : (p : Paper Allowances) (r s : AllowanceAnswer) → said r ≡ p → said s ≡ p → r ≡ s
-allowance_answer_one p r s e f = go r s (e ∙ sym f)
-  where
-    go : (r s : AllowanceAnswer) → said r ≡ said s → r ≡ s
-    go (Answer.Allowance v) (Answer.Allowance w) h = ap Answer.Allowance (answered_one v w h)
-    go (Answer.Allowance v) (Answer.Refused k) h = absurd (no_answer k v (sym h))
-    go (Answer.Refused k) (Answer.Allowance v) h = absurd (no_answer k v h)
-    go (Answer.Refused k) (Answer.Refused l) h = ap Answer.Refused (paper_one k l h)
+pub allowance_answer_one : (p : Paper Allowances) (r s : Result Allowances Refusal) → said r ≡ p → said s ≡ p → r ≡ s
+allowance_answer_one p r s e f = said_one r s (e ∙ sym f)

@@ -1,7 +1,6 @@
 -- P and its derivative, from one degree to the next on the way to an order.
 use mathlib.Core.Path.{◌≡◌, ap, ◌∙◌}
-use mathlib.Core.Logic.{⊎_elim, ◌⊎◌}
-use Prim.Native.Nat.{ℕ, suc, ◌+◌, ◌-◌, ◌<◌, ◌≤◌}
+use Prim.Native.Nat.{ℕ, suc, min, ◌+◌, ◌-◌, ◌<◌, ◌≤◌}
 use native.Mathlib.Nat.{not-suc-le-zero}
 use native.Mathlib.Numerals.{add-one}
 use native.Mathlib.Omega.{arith}
@@ -12,9 +11,9 @@ use Rattle.sums.specs.Recurrence.{Input, legendre, step}
 use Rattle.sums.specs.Paths.{placed}
 use Rattle.synthesis.specs.Sum.{Lent, inputs}
 use Rattle.sums.proofs.Step.{legendre_next}
-use Rattle.allowance.specs.declared.rows.PDp.{PDp}
+use Rattle.synthesis.specs.declared.rows.PDp.{PDp}
 use Rattle.bounds.specs.Bounds.{bounds}
-use Rattle.allowance.specs.Code.{pdp, qp}
+use Rattle.synthesis.specs.Code.{pdp, qp}
 use Rattle.allowance.proofs.Lits.{abs_zero, abs_one}
 
 -- on the way to order m: degree n at its own order while that is at most m, then at order m; prev2 is one degree before
@@ -29,7 +28,7 @@ unfolding legendre bounds
 start i m = record { diagonal = λ h. rw (abs_zero, abs_one); column = λ h. let e : m ≡ 0 = omega arith in rw (e, abs_zero, abs_one); before = λ h. absurd (not-suc-le-zero h) }
 
 -- one degree more, at order o
-pub next : (a : Lent) (n m o : ℕ) (c s k : Float) (prev1 prev2 r : PDp) → (o ≤ n + 1) × (o ≤ m) × ((o ≡ n + 1) ⊎ (o ≡ m))
+pub next : (a : Lent) (n m o : ℕ) (c s k : Float) (prev1 prev2 r : PDp) → o ≡ min m (n + 1)
     → c ≡ abs a.cos_theta → s ≡ abs a.sin_theta → k ≡ abs (k_of (n + 1) o)
     → r ≡ pdp (step bounds c s k (n + 1) o (qp prev1) (qp prev1) (qp prev2)) → Way (inputs bounds a) n m prev1 prev2
     → Way (inputs bounds a) (n + 1) m r prev1
@@ -41,10 +40,10 @@ next a n m o c s k prev1 prev2 r ho ec es ek er w =
     ap qp er ∙ rw (ec, es, ek, add-one)
     (legendre_next bounds (inputs bounds a) n o l (qp prev1) (qp prev1) (qp prev2)
     (λ f. w.diagonal (omega arith))
-    (λ f. ⊎_elim (λ (g : o ≡ n + 1). absurd (omega arith)) (λ (g : o ≡ m). rw g (w.column (omega arith))) ho.2)
-    (λ f. ⊎_elim (λ (g : o ≡ n + 1). absurd (omega arith)) (λ (g : o ≡ m). rw g (w.before (omega arith))) ho.2)) in
+    (λ f. let g : o ≡ m = omega arith in rw g (w.column (omega arith)))
+    (λ f. let g : o ≡ m = omega arith in rw g (w.before (omega arith)))) in
     record {
-      diagonal = λ h. let f : o ≡ suc n = ⊎_elim (λ g. omega arith) (λ g. omega arith) ho.2 in rw add-one (rw f at e);
-      column = λ h. let f : o ≡ m = ⊎_elim (λ g. omega arith) (λ g. omega arith) ho.2 in rw add-one (rw f at e);
+      diagonal = λ h. let f : o ≡ suc n = omega arith in rw add-one (rw f at e);
+      column = λ h. let f : o ≡ m = omega arith in rw add-one (rw f at e);
       before = λ h. rw u (w.column (omega arith));
     }

@@ -8,9 +8,9 @@ use lib.ListN.{length}
 use lib.Ieee.{Float, binary32, add, div, mul, of_bits, round, sum}
 use Rattle.exact.specs.Tests.{abs}
 use Rattle.exact.proofs.Ranks.{Nr}
-use Rattle.refusals.specs.Paper.{Paper, after, answered, paper}
+use Rattle.std.specs.Prelude.{Ok, Err, IfOk, Result}
+use Rattle.refusals.specs.Paper.{Paper, accepted, after, answered, paper, said}
 use Rattle.refusals.specs.declared.Refusal.{Refusal}
-use Rattle.refusals.specs.declared.Verdict.TheVariants as Verdict
 use Rattle.refusals.proofs.Laws.{answered_one, no_answer}
 use Rattle.tables.specs.Degree.{degree_of, place}
 use Rattle.tables.proofs.Degrees.{degree_high}
@@ -40,9 +40,7 @@ use Rattle.bounds.proofs.Kept.{bounds_keep}
 use Rattle.bounds.proofs.Plain.{fifth_of_sizes}
 use Rattle.bounds.proofs.Wholly.{wholly_hom}
 use Rattle.allowance.specs.declared.Allowances.{Allowances}
-use Rattle.allowance.specs.declared.AllowanceAnswer.{AllowanceAnswer}
-use Rattle.allowance.specs.declared.AllowanceAnswer.TheVariants as Answer
-use Rattle.allowance.specs.Allowance.{allowances_of, said}
+use Rattle.allowance.specs.Allowance.{allowances_of}
 use Rattle.allowance.specs.Code.{span, spans}
 use Rattle.allowance.specs.Profile.{IgrfCovered, igrf_allowances, igrf_allowance_says}
 use Rattle.allowance.proofs.Laws.{covered, east_covers, turned_covers}
@@ -56,6 +54,14 @@ no_span = refl
 spanned : (from to : List Float) (t : Float) → length to ≡ length from → (n m : ℕ) → dated bounds from (spans from to) t n m ≡ between bounds from to t n m
 unfolding bounds span of_bits
 spanned from to t e n m = ap (λ (z : Float). add binary32 (abs (at from n m)) (mul binary32 (abs t) z)) (ap abs (at_all span no_span from to (place n m - 1) e) ∙ fifth_of_sizes (at to n m) (at from n m))
+
+-- a set with other rates, of any year: the allowances don't read it
+abbrev pub with_rates : Asked → ℤ → List Float → List Float → Asked
+with_rates q year x y = asked q.height q.sin_phi q.cos_phi q.sin_lambda q.cos_lambda year q.g q.h x y
+
+any_year : (q : Asked) (z : ℤ) (e : EpochOffset) → allowances_of (with_rates q z q.g_dot q.h_dot) e ≡ allowances_of q e
+unfolding field_x field_y field_z handed
+any_year q z e = refl
 
 module _ (a : Profile) (e : EpochOffset) where
   abbrev g : List Float
@@ -75,7 +81,7 @@ module _ (a : Profile) (e : EpochOffset) where
 
   -- what the code asks: the first set, with those lists as its rates
   abbrev spread : Asked
-  spread = asked a.one.height a.one.sin_phi a.one.cos_phi a.one.sin_lambda a.one.cos_lambda a.one.set_epoch g h (spans g c) (spans h d)
+  spread = with_rates a.one a.one.set_epoch (spans g c) (spans h d)
 
   module _ (l : Long g h c d) where
     g_same : (inputs bounds (handed spread e)).g ≡ between bounds g c e.offset
@@ -149,16 +155,27 @@ module _ (a : Profile) (year day : ℤ) where
     met = (behind false a year day v (sym h)).0
 
     pub pair_long : early year ≡ true → Long a.one.g a.one.h a.second_g a.second_h
-    pair_long s = (pair_listed _ _ _ _ (subst (λ (b : Bool). lists_found a b ≡ Verdict.Accepted) s met.lists)).long
+    pair_long s = (pair_listed _ _ _ _ (subst (λ (b : Bool). lists_found a b ≡ accepted) s met.lists)).long
 
     pub set_long : early year ≡ false → Long a.one.g a.one.h a.one.g_dot a.one.h_dot
-    set_long s = (forecast_listed _ _ _ _ (subst (λ (b : Bool). lists_found a b ≡ Verdict.Accepted) s met.lists)).long
+    set_long s = (forecast_listed _ _ _ _ (subst (λ (b : Bool). lists_found a b ≡ accepted) s met.lists)).long
 
-    pub allowances_shown : (e : EpochOffset) → answered e ≡ igrf_day year day → (soon : Bool) → soon ≡ early year → (r : Allowances) → r ≡ cond soon (allowances_of (spread a e) e) (allowances_of a.one e) → answered r ≡ igrf_allowance_says a year day
-    allowances_shown e i soon s r er =
+    -- what is shown on that day is what the profile says
+    shown_is : (e : EpochOffset) → answered e ≡ igrf_day year day → (soon : Bool) → early year ≡ soon → answered (igrf_allowances a soon e) ≡ igrf_allowance_says a year day
+    shown_is e i soon s =
         let ee : e ≡ epoch_offset year day = answered_one e (epoch_offset year day) (i ∙ day_is) in
-        let c : cond soon (allowances_of (spread a e) e) (allowances_of a.one e) ≡ igrf_allowances a soon e = chosen_shown a e soon (λ t. pair_long (sym s ∙ t)) in
-        ap answered (er ∙ c ∙ ap (λ (b : Bool). igrf_allowances a b e) s ∙ ap (igrf_allowances a (early year)) ee) ∙ said_after (answered v) h
+        ap answered (ap (λ (b : Bool). igrf_allowances a b e) (sym s) ∙ ap (igrf_allowances a (early year)) ee) ∙ said_after (answered v) h
+
+    -- before 2025: with the sizes of both sets in the place of the rates
+    pub early_said : (e : EpochOffset) → answered e ≡ igrf_day year day → early year ≡ true → (z : ℤ) (x y : List Float) → x ≡ spans a.one.g a.second_g → y ≡ spans a.one.h a.second_h
+        → (r : Allowances) → r ≡ allowances_of (with_rates a.one z x y) e → answered r ≡ igrf_allowance_says a year day
+    early_said e i s z x y ex ey r er =
+        let f : allowances_of (with_rates a.one z x y) e ≡ allowances_of (spread a e) e = rw (ex, ey) (any_year (spread a e) z e) in
+        ap answered (er ∙ f ∙ spread_shown a e (pair_long s)) ∙ shown_is e i true s
+
+    -- and from then on, of the first set
+    pub late_said : (e : EpochOffset) → answered e ≡ igrf_day year day → early year ≡ false → (r : Allowances) → r ≡ allowances_of a.one e → answered r ≡ igrf_allowance_says a year day
+    late_said e i s r er = ap answered er ∙ shown_is e i false s
 
   -- what stands behind an answer
   answer_of : (u : Allowances) → igrf_allowance_says a year day ≡ answered u → (v : Xyz) × (igrf_says a year day ≡ answered v) × (found ≡ u)
@@ -170,8 +187,13 @@ module _ (a : Profile) (year day : ℤ) where
       let q = answer_of u h in
       subst (λ (z : Allowances). IgrfCovered a (early year) (epoch_offset year day) z) q.2 (met_covered a (epoch_offset year day) (early year) (behind false a year day q.0 q.1).0)
 
-  pub answer_covers : (r : AllowanceAnswer) → said r ≡ igrf_allowance_says a year day → (u : Allowances) → r ≡ Answer.Allowance u → IgrfCovered a (early year) (epoch_offset year day) u
+  pub answer_covers : (r : Result Allowances Refusal) → said r ≡ igrf_allowance_says a year day → (u : Allowances) → r ≡ Ok u → IgrfCovered a (early year) (epoch_offset year day) u
   answer_covers r h u e = covers u (sym h ∙ ap said e)
+
+  -- the same, of the result
+  pub covers_if : (r : Result Allowances Refusal) → said r ≡ igrf_allowance_says a year day → IfOk r (λ u. IgrfCovered a (early year) (epoch_offset year day) u)
+  covers_if (Ok u) h = answer_covers (Ok u) h u refl
+  covers_if (Err k) h = tt
 
 -- ---- and reaches as far as the answer lies from the exact field
 pub record IgrfReached (a : Profile) (soon : Bool) (e : EpochOffset) (u : Allowances) (v : Xyz) : Type 0 where

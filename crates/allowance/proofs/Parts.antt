@@ -11,24 +11,26 @@ use Rattle.sums.specs.Recurrence.{coefficient, dpsn, legendre, psn}
 use Rattle.sums.specs.Paths.{at, placed}
 use Rattle.synthesis.specs.Sum.{inputs}
 use Rattle.synthesis.proofs.GeneralSum.{at_read}
-use Rattle.lists.specs.Lists.{Long}
-use Rattle.allowance.specs.declared.Point.{Point}
-use Rattle.allowance.specs.declared.angles.SinCos.{SinCos}
-use Rattle.allowance.specs.declared.rows.PDp.{PDp}
+use Rattle.allowance.specs.declared.inputs.Inputs.{Inputs}
+use Rattle.synthesis.specs.declared.angles.SinCos.{SinCos}
+use Rattle.synthesis.specs.declared.rows.PDp.{PDp}
 use Rattle.allowance.specs.declared.terms.Parts.{Parts}
 use Rattle.bounds.specs.Bounds.{bounds}
-use Rattle.allowance.specs.Code.{lent_at, pair_of, parts_of, pdp}
+use Rattle.synthesis.specs.Code.{pdp}
+use Rattle.allowance.specs.Code.{lent_of, pair_of, parts_of}
 
-pub parts_are : (q : Point) (g h gd hd : List Float) (n m k : ℕ) (u : SinCos) (s gt ht : Float) (r : PDp)
-    → 0 < n → n ≤ degree_of (length g) → m ≤ n → k ≡ place n m - 1 → Long g h gd hd
+pub parts_are : (q : Inputs) (n m k : ℕ) (u : SinCos) (s gt ht : Float) (r : PDp)
+    → 0 < n → n ≤ degree_of (length q.lists.g.now) → m ≤ n → k ≡ place n m - 1
     → s ≡ abs (schmidt_at (place n m))
-    → gt ≡ coefficient bounds (abs (get_or g k nan)) (abs (get_or gd k nan)) (abs q.offset)
-    → ht ≡ coefficient bounds (abs (get_or h k nan)) (abs (get_or hd k nan)) (abs q.offset)
-    → r ≡ pdp (legendre bounds (inputs bounds (lent_at q g h gd hd)) n m)
+    → gt ≡ coefficient bounds (abs (get_or q.lists.g.now k nan)) (abs (get_or q.lists.g_dot.now k nan)) (abs q.offset)
+    → ht ≡ coefficient bounds (abs (get_or q.lists.h.now k nan)) (abs (get_or q.lists.h_dot.now k nan)) (abs q.offset)
+    → r ≡ pdp (legendre bounds (inputs bounds (lent_of q)) n m)
     → ◌≡◌ {A = Parts}
     (record { gc = add binary32 (mul binary32 gt u.cos) (mul binary32 ht u.sin); gs = add binary32 (mul binary32 gt u.sin) (mul binary32 ht u.cos); ps = mul binary32 s r.p; dps = mul binary32 s r.dp })
-    (parts_of (lent_at q g h gd hd) n m (pair_of u))
+    (parts_of (lent_of q) n m (pair_of u))
 unfolding parts_of inputs placed psn dpsn bounds
-parts_are q g h gd hd n m k u s gt ht r z hn hm ek L es eg eh er =
-    let read : (l : List Float) → length l ≡ length g → get_or l k nan ≡ at l n m = λ l e. at_read l (degree_of (length g)) n m k (e ∙ L.g_long) z hn hm ek in
-    rw (es, eg, eh, er, read g refl, read h L.h_long, read gd L.gd_long, read hd L.hd_long)
+parts_are q n m k u s gt ht r z hn hm ek es eg eh er =
+    let l = q.lists in
+    let L = q.long in
+    let read : (x : List Float) → length x ≡ length l.g.now → get_or x k nan ≡ at x n m = λ x e. at_read x (degree_of (length l.g.now)) n m k (e ∙ L.g_long) z hn hm ek in
+    rw (es, eg, eh, er, read l.g.now refl, read l.h.now L.h_long, read l.g_dot.now L.gd_long, read l.h_dot.now L.hd_long)

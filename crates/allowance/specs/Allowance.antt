@@ -1,14 +1,12 @@
 -- The entry Allowance: for what Field is asked, its refusals, and where Field answers, an upper bound of demand 3's allowance for each component.
 -- Definitions only.
 use Rattle.std.specs.Prelude.{ℤ}
-use Rattle.refusals.specs.Paper.{Paper, answered, paper, after}
+use Rattle.refusals.specs.Paper.{Paper, answered, after}
 use Rattle.models.specs.declared.epochs.EpochOffset.{EpochOffset}
 use Rattle.models.specs.Epochs.{epoch_offset}
 use Rattle.sums.specs.Arithmetic.{sizes}
 use Rattle.field.specs.Field.{Asked, field_x, field_y, field_z, field_says}
 use Rattle.allowance.specs.declared.Allowances.{Allowances}
-use Rattle.allowance.specs.declared.AllowanceAnswer.{AllowanceAnswer}
-use Rattle.allowance.specs.declared.AllowanceAnswer.TheVariants as Answer
 use Rattle.bounds.specs.Bounds.{bounds, allowed, Covers}
 
 -- what is shown for the majorant of each component, for a day of epoch and offset e
@@ -18,11 +16,6 @@ allowances_of a e = record { x = allowed (field_x bounds a e); y = allowed (fiel
 -- Field's refusals in Field's order, then the three allowances of that day
 unfoldable pub allowance_says : Asked → (year day : ℤ) → Paper Allowances
 allowance_says a year day = after (field_says a year day) (λ v. answered (allowances_of a (epoch_offset year day)))
-
--- the paper's number and values of each case of the answer
-abbrev pub said : AllowanceAnswer → Paper Allowances
-said (Answer.Allowance v) = answered v
-said (Answer.Refused k) = paper k
 
 -- each number covers demand 3's allowance for Field's component, with the sizes as its majorant as in Field's promise
 pub record Covered (a : Asked) (e : EpochOffset) (v : Allowances) : Type 0 where

@@ -3,13 +3,14 @@ ghost use Rattle.std.specs.Prelude.{◌≡◌};
 ghost use Rattle.allowance.specs.Code.{turned_of};
 
 use field::Latitude;
+use geocentric::Geocentric;
 use synthesis::Xyz;
 
-pub fn turn(v: Xyz, cos_theta: f32, sin_theta: f32, latitude: Latitude) -> Xyz
-    ensures { result ≡ turned_of v cos_theta sin_theta latitude.cos latitude.sin }
+pub fn turn(v: Xyz, p: Geocentric, latitude: Latitude) -> Xyz
+    ensures { result ≡ turned_of v p latitude.sin latitude.cos }
 {
-    let c = float32::abs(cos_theta);
-    let s = float32::abs(sin_theta);
+    let c = float32::abs(p.cos_theta);
+    let s = float32::abs(p.sin_theta);
     let cp = float32::abs(latitude.cos);
     let sp = float32::abs(latitude.sin);
     let sin_dphi = c * cp + s * sp;

@@ -1,4 +1,6 @@
 -- Which refusals Field in degrees never ends in: after 16 never 3, and 2 only for a latitude beyond ±90 degrees. Assumes nothing.
+use Rattle.refusals.specs.Paper.{answered, unless, after, told, check, both}
+use Rattle.refusals.specs.Paper.{accepted as nothing_refused}
 use mathlib.Core.Path.{◌≡◌, sym, subst}
 use mathlib.Core.Bool.{Bool, true, false, cond}
 use mathlib.Core.List.{List, [], ◌∷◌}
@@ -14,9 +16,9 @@ use lib.Ieee.Scale.{finite}
 use Rattle.exact.specs.Exact.{own}
 use Rattle.exact.specs.Tests.{circle, between, capped}
 use Rattle.exact.proofs.Sizes.{AtMost, between_size}
-use Rattle.refusals.specs.Paper.{answered, unless, after, told, check, both}
+use Rattle.refusals.specs.declared.ListName.{ListName}
+use Rattle.refusals.specs.declared.ListName.TheVariants.{G, H, GDot, HDot}
 use Rattle.refusals.specs.declared.Refusal.TheVariants.{Latitude, Longitude, DayOfYear, Length, Coefficient, Degree, OtherEpoch, Unusable, Angle}
-use Rattle.refusals.specs.declared.Verdict.{Verdict}
 use Rattle.refusals.proofs.Never.{Never, Passes, never_unless, never_told, never_after, passes_check, passes_true, passes_both}
 use Rattle.models.specs.declared.epochs.EpochOffset.{EpochOffset}
 use Rattle.models.specs.declared.records.ErrorRecord.{ErrorRecord}
@@ -38,7 +40,7 @@ module _ (n : ℕ) (l : n ≤ 3) where
   later : (m : ℕ) → 4 ≤ m → m ≡ n → ⊥
   later m h e = omega arith
 
-  entries_pass : (cap : Float) (k i : ℕ) (xs : List Float) → Passes n (entries_verdict cap k i xs)
+  entries_pass : (cap : Float) (k : ListName) (i : ℕ) (xs : List Float) → Passes n (entries_verdict cap k i xs)
   unfolding entries_verdict
   entries_pass cap k i [] = tt
   entries_pass cap k i (x ∷ xs) = passes_check n (capped cap x) (Coefficient k i) (entries_verdict cap k (suc i) xs) (later 7 (lit≤ tt)) (entries_pass cap k (suc i) xs)
@@ -46,12 +48,12 @@ module _ (n : ℕ) (l : n ≤ 3) where
   lists_pass : (g h gd hd : List Float) → Passes n (lists_verdict g h gd hd)
   unfolding lists_verdict lengths_verdict
   lists_pass g h gd hd =
-      let c = entries_verdict rate_cap 2 0 gd in
-      let d = entries_verdict rate_cap 3 0 hd in
-      let b = entries_verdict main_cap 1 0 h in
+      let c = entries_verdict rate_cap GDot 0 gd in
+      let d = entries_verdict rate_cap HDot 0 hd in
+      let b = entries_verdict main_cap H 0 h in
       passes_both n (lengths_verdict g h gd hd) (caps_verdict g h gd hd)
-      (passes_check n (all_whole g h gd hd) Length (check (one_degree g h gd hd) Degree Verdict.Accepted) (later 6 (lit≤ tt)) (passes_check n (one_degree g h gd hd) Degree Verdict.Accepted (later 23 (lit≤ tt)) tt))
-      (passes_both n (entries_verdict main_cap 0 0 g) (both b (both c d)) (entries_pass main_cap 0 0 g) (passes_both n b (both c d) (entries_pass main_cap 1 0 h) (passes_both n c d (entries_pass rate_cap 2 0 gd) (entries_pass rate_cap 3 0 hd))))
+      (passes_check n (all_whole g h gd hd) Length (check (one_degree g h gd hd) Degree nothing_refused) (later 6 (lit≤ tt)) (passes_check n (one_degree g h gd hd) Degree nothing_refused (later 23 (lit≤ tt)) tt))
+      (passes_both n (entries_verdict main_cap G 0 g) (both b (both c d)) (entries_pass main_cap G 0 g) (passes_both n b (both c d) (entries_pass main_cap H 0 h) (passes_both n c d (entries_pass rate_cap GDot 0 gd) (entries_pass rate_cap HDot 0 hd))))
 
   dated_never : (a : Asked) (e : EpochOffset) → Never n (dated_says a e)
   unfolding dated_says shown_says
@@ -110,8 +112,8 @@ pub never_longitude : (a : Place) (year day : ℤ) → T (fits binary32 a.longit
 unfolding place_verdict
 never_longitude a year day h = degrees_never 3 (lit≤ tt) a year day (λ p q i j. go (height_ok a.height) (latitude_ok p.sine p.cosine) (circle q.sine q.cosine) (made_on_circle a.longitude q h j))
   where
-    go : (b c d : Bool) → d ≡ true → Passes 3 (check b outside_height (check c Latitude (check d Longitude Verdict.Accepted)))
-    go b c d e = passes_check 3 b outside_height (check c Latitude (check d Longitude Verdict.Accepted)) (λ i. omega arith) (passes_check 3 c Latitude (check d Longitude Verdict.Accepted) (λ i. omega arith) (passes_true 3 d Longitude Verdict.Accepted e tt))
+    go : (b c d : Bool) → d ≡ true → Passes 3 (check b outside_height (check c Latitude (check d Longitude nothing_refused)))
+    go b c d e = passes_check 3 b outside_height (check c Latitude (check d Longitude nothing_refused)) (λ i. omega arith) (passes_check 3 c Latitude (check d Longitude nothing_refused) (λ i. omega arith) (passes_true 3 d Longitude nothing_refused e tt))
 
 -- ---- a latitude up to ±90 degrees: its cosine (`upright`) is not beyond the pole
 no_minus : (k : ℕ) (l : ℤ) → T (le beyond_pole (fin false k l))
@@ -137,5 +139,5 @@ never_latitude a year day h b =
         go (fin false m e) a t = plus false m e (let w = a.1 in omega arith) t
         go (fin true m e) a t = plus true m e (let w = a.1 in omega arith) t
 
-    go : (b c d : Bool) → c ≡ true → Passes 2 (check b outside_height (check c Latitude (check d Longitude Verdict.Accepted)))
-    go b c d e = passes_check 2 b outside_height (check c Latitude (check d Longitude Verdict.Accepted)) (λ i. omega arith) (passes_true 2 c Latitude (check d Longitude Verdict.Accepted) e (passes_check 2 d Longitude Verdict.Accepted (λ i. omega arith) tt))
+    go : (b c d : Bool) → c ≡ true → Passes 2 (check b outside_height (check c Latitude (check d Longitude nothing_refused)))
+    go b c d e = passes_check 2 b outside_height (check c Latitude (check d Longitude nothing_refused)) (λ i. omega arith) (passes_true 2 c Latitude (check d Longitude nothing_refused) e (passes_check 2 d Longitude nothing_refused (λ i. omega arith) tt))

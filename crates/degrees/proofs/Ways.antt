@@ -1,13 +1,14 @@
--- The ways of `field_in_degrees`: which clause of its contract each return is. Assumes nothing.
+-- The ways of `field_in_degrees`, and that what is said of a place in degrees is near the exact field of the made pairs. Assumes nothing.
 use mathlib.Core.Path.{◌≡◌, sym, ◌∙◌}
 use lib.IntN.{ℤ}
+use Rattle.std.specs.Prelude.{Result}
 use Rattle.refusals.specs.declared.Refusal.{Refusal}
-use Rattle.refusals.specs.Paper.{answered, paper}
+use Rattle.refusals.specs.Paper.{answered, paper, said}
 use Rattle.models.specs.Epochs.{epoch_offset}
+use Rattle.strengths.specs.declared.GeomagneticField.{GeomagneticField}
 use Rattle.trig.specs.declared.Pair.{Pair}
 use Rattle.trig.specs.Fixed.{sine_says}
-use Rattle.field.specs.declared.FieldAnswer.{FieldAnswer}
-use Rattle.field.specs.Field.{said, field_says}
+use Rattle.field.specs.Field.{field_says}
 use Rattle.field.proofs.Answers.{field_close}
 use Rattle.degrees.specs.Degrees.{Place, paired, degrees_says, DegreesClose}
 
@@ -26,5 +27,5 @@ module _ (a : Place) (year day : ℤ) where
     asked_field q f = rw (sym e, sym f)
 
   -- what is said is near the exact field of the made pairs
-  pub said_close : (r : FieldAnswer) → said r ≡ degrees_says a year day → DegreesClose a (epoch_offset year day) r
+  pub said_close : (r : Result GeomagneticField Refusal) → said r ≡ degrees_says a year day → DegreesClose a (epoch_offset year day) r
   said_close r e = λ v m p q i j. field_close (paired a p q) year day r (e ∙ sym (asked_field p (sym i) q (sym j))) v m

@@ -3,7 +3,7 @@ use mathlib.Core.Path.{◌≡◌, refl, sym, ap, ap₂, ◌∙◌, subst}
 use Prim.Native.Nat.{ℕ, zero, suc, ◌-◌, ◌*◌, ◌/◌, ◌%◌, ◌^◌, ◌<◌}
 use native.Mathlib.Nat.{le_of_eq, lt_of_lt_of_le, mul-pos, zero-mul, zero-lt-suc, div-eq_of_eq-mul_left}
 use native.Mathlib.Omega.{arith}
-use mathlib.Core.Bool.{Bool, true, false, not, ◌&&◌, cond, true≢false}
+use mathlib.Core.Bool.{Bool, true, false, ◌&&◌, cond, true≢false}
 use lib.Dec.{T, lit<}
 use lib.Pow.{pow_pos}
 use lib.IntN.{ℤ}
@@ -11,7 +11,6 @@ use lib.Ieee.{Float, nan, inf, fin, binary32, of_bits, fits, neg, lt, eq, up, do
 use lib.Ieee.Fits.{down_pos, up_pos}
 use lib.Ieee.Scale.{finite}
 use lib.Ieee.Bits.{is_true}
-use borrow.Author.Tests.{not-true, not-false}
 use Rattle.exact.specs.Exact.{units_of}
 use Rattle.exact.proofs.Round.{whole_units}
 use Rattle.float32.specs.Bits.{bits_of}
@@ -63,34 +62,21 @@ finite_both : (x y : Float) → T (finite x) → T (finite y) → direction_of x
 unfolding direction_of
 finite_both x y f g = rw (is_true (finite x) f, is_true (finite y) g)
 
-pub angle_said : (x y d : Float) → T (finite x) → T (finite y) → d ≡ angle_of x y → d ≡ direction_of x y
-angle_said x y d f g e = e ∙ sym (finite_both x y f g)
+pub angle_said : (x y d : Float) → finite x ≡ true → finite y ≡ true → d ≡ angle_of x y → d ≡ direction_of x y
+unfolding direction_of
+angle_said x y d f g e = rw (f, g) e
 
 pub said_points : (x y d : Float) → T (fits binary32 y) → d ≡ direction_of x y → Points x y d
 said_points x y d h e = λ f g z. subst (λ (w : Float). Pointed x y w) (sym (e ∙ finite_both x y f g)) (pointed x y h g z)
 
-pub both : (x y d : Float) → fits binary32 y ≡ true → d ≡ direction_of x y → (d ≡ direction_of x y) × Points x y d
-both x y d h e = (e, said_points x y d (subst T (sym h) tt) e)
+-- ---- the ways of `direction` to no number
+pub x_not_finite : (x y : Float) → finite x ≡ false → of_bits binary32 0x7fc00000 ≡ direction_of x y
+unfolding direction_of of_bits
+x_not_finite x y e = rw e
 
--- ---- the ways of `direction`
--- what the test of a number finds
-pub now_finite : (x : Float) (r : Bool) → r ≡ finite x → not r ≡ false → T (finite x)
-now_finite x r e f = subst T (sym (not-false r f) ∙ e) tt
-
-pub not_finite : (x : Float) (r : Bool) → r ≡ finite x → not r ≡ true → finite x ≡ false
-not_finite x r e f = sym e ∙ not-true r f
-
-pub no_number : (d : Float) → d ≡ of_bits binary32 0x7fc00000 → d ≡ nan
-unfolding of_bits
-no_number d e = e
-
-pub x_not_finite : (x y d : Float) → d ≡ nan → finite x ≡ false → d ≡ direction_of x y
-unfolding direction_of
-x_not_finite x y d n e = n ∙ rw e refl
-
-pub y_not_finite : (x y d : Float) → d ≡ nan → finite y ≡ false → d ≡ direction_of x y
-unfolding direction_of
-y_not_finite x y d n e = n ∙ go (finite x)
+pub y_not_finite : (x y : Float) → finite y ≡ false → of_bits binary32 0x7fc00000 ≡ direction_of x y
+unfolding direction_of of_bits
+y_not_finite x y e = go (finite x)
   where
     go : (b : Bool) → nan ≡ cond (b && finite y) (angle_of x y) nan
     go true = rw e
@@ -105,7 +91,13 @@ pub ahead : (x y : Float) → eq y (of_bits binary32 0) ≡ true → lt x (of_bi
 unfolding angle_of
 ahead x y z l = rw (z, l)
 
-module _ (x y : Float) (nx : T (finite x)) (ny : T (finite y)) (hx : fits binary32 x ≡ true) (hy : fits binary32 y ≡ true) (z : eq y (of_bits binary32 0) ≡ false) (a b : ℕ) (ea : a ≡ bits_of x) (eb : b ≡ bits_of y) where
+module _ (x y : Float) (ix : finite x ≡ true) (iy : finite y ≡ true) (hx : fits binary32 x ≡ true) (hy : fits binary32 y ≡ true) (z : eq y (of_bits binary32 0) ≡ false) (a b : ℕ) (ea : a ≡ bits_of x) (eb : b ≡ bits_of y) where
+  nx : T (finite x)
+  nx = subst T (sym ix) tt
+
+  ny : T (finite y)
+  ny = subst T (sym iy) tt
+
   fx : T (fits binary32 x)
   fx = subst T (sym hx) tt
 

@@ -1,7 +1,7 @@
 -- A float's size by its bit pattern, and what the functions of `src/arc.rt` return. Assumes nothing.
 use mathlib.Core.Path.{◌≡◌, refl, sym, ap, ap₂, ◌∙◌}
 use Prim.Native.Nat.{ℕ, zero, suc, ◌+◌, ◌-◌, ◌*◌, ◌/◌, ◌%◌, ◌^◌, ◌≤◌, ◌<◌}
-use native.Mathlib.Nat.{le_trans, le_of_eq, lt_of_lt_of_le, mul-one, mul_assoc, mul-le-mul, mul-le-mul_left, mul-le-mul_right, mul-lt-mul_of_pos_right, pow-le-pow_right, div-eq_of_lt, div-le_self, div-le_of_le-mul, div-eq_of_eq-mul_left, mul-div-mul_right}
+use native.Mathlib.Nat.{mul-pos, le_trans, le_of_eq, lt_of_lt_of_le, mul-one, mul_assoc, mul-le-mul, mul-le-mul_left, mul-le-mul_right, mul-lt-mul_of_pos_right, pow-le-pow_right, div-eq_of_lt, div-le_self, div-le_of_le-mul, div-eq_of_eq-mul_left, mul-div-mul_right}
 use native.Mathlib.Omega.{arith}
 use mathlib.Core.Bool.{Bool, true, false, cond}
 use lib.Dec.{T, leb, ltb, lit≤, lit<}
@@ -15,7 +15,7 @@ use Rattle.exact.specs.Exact.{units_of}
 use Rattle.float32.proofs.Bits.{float_back}
 use Rattle.trig.specs.Fixed.{step_of, in_units}
 use Rattle.direction.specs.Direction.{arc_part, arc_of, ratio_of, octant_of, digits_of, place_of, units_at}
-use Rattle.float32.proofs.Values.{powers, same, few, normal}
+use Rattle.float32.proofs.Values.{shift_whole, powers, same, few, normal}
 use Rattle.float32.proofs.Unsigned.{unsigned, top_none}
 use Rattle.direction.proofs.Arcs.{arc_none}
 use Rattle.direction.proofs.Quadrants.{octant_low, octant_high}
@@ -153,6 +153,16 @@ module _ (p q : ℕ) (l : q ≤ p) where
           let z : ratio_of n (m * K) ≡ 0 = ratio_far n (m * K) (omega arith) in
           sym (octant_low (m * K) n (omega arith)) ∙ ap arc_of z ∙ arc_none
 
+  -- the code's shift loses no digit, and what is shifted is the larger size
+  pub shifted : place_of p - place_of q < 32 → digits_of p * 2 ^ (place_of p - place_of q) % 18446744073709551616 ≡ digits_of p * 2 ^ (place_of p - place_of q)
+  shifted h = shift_whole (digits_of p) (place_of p - place_of q) (fields p).most h
+
+  pub larger : place_of p - place_of q < 32 → digits_of q ≤ digits_of p * 2 ^ (place_of p - place_of q) % 18446744073709551616
+  larger h = le_trans sizes (le_of_eq (sym (shifted h)))
+
+  pub octant_is : (j : ℕ) → place_of p - place_of q < 32 → j ≡ octant_of (digits_of p * 2 ^ (place_of p - place_of q) % 18446744073709551616) (digits_of q) → j ≡ octant_of (units_at p) (units_at q)
+  octant_is j h e = e ∙ ap (λ (x : ℕ). octant_of x (digits_of q)) (shifted h) ∙ octant_at
+
   pub units_order : units_at q ≤ units_at p
   units_order = le_trans (mul-le-mul_right (2 ^ (place_of q - 1)) sizes) (le_of_eq (sym (common p (digits_of p) (place_of p) q (digits_of q) (place_of q) (fields p) (fields q) l)))
 
@@ -169,6 +179,10 @@ digits_some p h = go (ltb p 8388608) refl
     go : (t : Bool) → ltb p 8388608 ≡ t → 0 < cond t p (p % 8388608 + 8388608)
     go true e = h
     go false e = omega arith
+
+-- and so has what it is shifted to
+pub shifted_some : (p q : ℕ) → q ≤ p → 0 < p → place_of p - place_of q < 32 → 0 < digits_of p * 2 ^ (place_of p - place_of q) % 18446744073709551616
+shifted_some p q l h k = lt_of_lt_of_le (mul-pos (digits_some p h) (pow_pos (place_of p - place_of q))) (le_of_eq (sym (shifted p q l k)))
 
 -- ---- a finite float
 module _ (x : Float) (held : T (fits binary32 x)) (f : T (finite x)) where

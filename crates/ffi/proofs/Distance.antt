@@ -1,4 +1,6 @@
 -- What a returned 0 means: there is an answer. So Field's promised distance holds of what `njerumoy_field`, `njerumoy_field_in_degrees`, `njerumoy_field_stored`, `njerumoy_field_stored_either` and `njerumoy_field_listed` have written, and that of the rates of what `njerumoy_rates` has. Assumes nothing.
+use Rattle.refusals.specs.Paper.{Verdict, Paper, answered, refused, paper, unless, after, told}
+use Rattle.std.specs.Prelude.{Ok, Err}
 use mathlib.Core.Path.{◌≡◌, refl, sym, ap, ◌∙◌}
 use mathlib.Core.Bool.{Bool, true, false, not, cond}
 use mathlib.Core.List.{List, [], ◌∷◌}
@@ -20,8 +22,6 @@ use denote.Triple.Clauses.{at_exit}
 use borrow.Fn.Kinds.{Dens, ended_of}
 use Rattle.refusals.specs.declared.Refusal.{Refusal}
 use Rattle.refusals.specs.declared.Refusal.TheVariants.{DayOfYear, OtherEpoch, Unusable, NoErrorRecord, Angle, ZeroDivisor}
-use Rattle.refusals.specs.Paper.{Paper, answered, refused, paper, unless, after, told}
-use Rattle.refusals.specs.declared.Verdict.{Verdict}
 use Rattle.refusals.proofs.Laws.{not_zero}
 use Rattle.refusals.proofs.Clauses.{says_first}
 use Rattle.models.specs.declared.errors.WmmErrorModel.{WmmErrorModel}
@@ -34,13 +34,11 @@ use Rattle.lists.specs.Sets.{ModelSet}
 use Rattle.stored.specs.Stored.{entries_in, says_of, stored_says, stored_verdict, verdict_of}
 use Rattle.trig.specs.declared.Pair.{Pair}
 use Rattle.trig.specs.Fixed.{accepted, sine_says}
-use Rattle.field.specs.declared.FieldAnswer.TheVariants as Answer
 use Rattle.strengths.specs.declared.GeomagneticField.{GeomagneticField}
 use Rattle.field.specs.Field.{Asked, asked, shown_says, dated_says, components_says, field_with, field_says, listed_field, FieldClose}
 use Rattle.field.proofs.Answers.{field_close, answer_close, of_place}
 use Rattle.degrees.specs.Degrees.{Place, place, paired, degrees_says}
 use Rattle.rates.specs.declared.YearlyRates.{YearlyRates}
-use Rattle.rates.specs.declared.RatesAnswer.TheVariants as RatesAnswer
 use Rattle.rates.specs.Rates.{AllFinite, RatesClose, rates_says, rates_with, zero_divisor}
 use Rattle.rates.proofs.Answers as rate_answers
 use Rattle.rates.proofs.Laws.{all_finite}
@@ -71,8 +69,8 @@ module _ {A : Type 0} where
   behind_test false k p h = λ e. absurd (not_zero k (sym e))
 
   behind_verdict : (u : Verdict) (p : Paper A) → Answers p → Answers (told u p)
-  behind_verdict Verdict.Accepted p h = h
-  behind_verdict (Verdict.Refused k) p h = λ e. absurd (not_zero k (sym e))
+  behind_verdict (Ok _) p h = h
+  behind_verdict (Err k) p h = λ e. absurd (not_zero k (sym e))
 
 not_refused : {A : Type 0} (n : ℕ) (x : List Float) (z : List ℤ) → Answers {A = A} (refused n x z) → 0 ≡ n → ⊥
 not_refused n x z h e = let q = h e in let o : ◌≡◌ {A = ℕ} 0 1 = cc in omega arith
@@ -174,7 +172,7 @@ njerumoy_field_distance κs height sin_phi cos_phi sin_lambda cos_lambda year da
     let a : Asked = asked height sin_phi cos_phi sin_lambda cos_lambda epoch_year g.now h.now g_dot.now h_dot.now in
     let q = field_answers a year day c.0.0 in
     let v = q.0 in
-    (v, c.0.1 ∙ ap (result_place field_floats _) q.1, c.0.2 ∙ ap (result_place error_floats _) q.1, field_close a year day (Answer.Field v) (sym q.1) v refl)
+    (v, c.0.1 ∙ ap (result_place field_floats _) q.1, c.0.2 ∙ ap (result_place error_floats _) q.1, field_close a year day (Ok v) (sym q.1) v refl)
 
 -- the same of the yearly rates, of the exact rates; and each of the seven is finite
 rates_answer : (a : Asked) (year day : ℤ) → Answers (rates_says a year day)
@@ -190,7 +188,7 @@ njerumoy_rates_distance κs height sin_phi cos_phi sin_lambda cos_lambda year da
     let a : Asked = asked height sin_phi cos_phi sin_lambda cos_lambda epoch_year g.now h.now g_dot.now h_dot.now in
     let q = rates_answer a year day c.0.0 in
     let v = q.0 in
-    (v, c.0.1 ∙ ap (result_place rate_floats _) q.1, rate_answers.answer_close a year day (RatesAnswer.Rates v) (sym q.1) v refl, all_finite a year day v q.1)
+    (v, c.0.1 ∙ ap (result_place rate_floats _) q.1, rate_answers.answer_close a year day (Ok v) (sym q.1) v refl, all_finite a year day v q.1)
 
 -- the same of the entry in degrees, of the exact field of the pairs that are made of the two angles
 pub njerumoy_field_in_degrees_distance : (κs : Lfts 8) (height latitude longitude : Float) (year day epoch_year : ℤ) (g h g_dot h_dot : Bor (List Float)) (xyz errors : MutBor (List Float)) (entry : MutBor (List ℕ)) (years : MutBor (List ℤ))
@@ -203,7 +201,7 @@ njerumoy_field_in_degrees_distance κs height latitude longitude year day epoch_
     let a : Place = place height latitude longitude epoch_year g.now h.now g_dot.now h_dot.now in
     let r = degrees_answers a year day c.0.0 in
     let v = r.2 in
-    (r.0, r.1, v, r.3, r.4, c.0.1 ∙ ap (result_place field_floats _) r.5, c.0.2 ∙ ap (result_place error_floats _) r.5, field_close (paired a r.0 r.1) year day (Answer.Field v) (sym r.6) v refl)
+    (r.0, r.1, v, r.3, r.4, c.0.1 ∙ ap (result_place field_floats _) r.5, c.0.2 ∙ ap (result_place error_floats _) r.5, field_close (paired a r.0 r.1) year day (Ok v) (sym r.6) v refl)
 
 -- the same of the entry with a stored set, of the set that is read
 pub njerumoy_field_stored_distance : (κs : Lfts 6) (stored : Bor (List ℕ)) (height sin_phi cos_phi sin_lambda cos_lambda : Float) (year day : ℤ) (xyz errors : MutBor (List Float)) (entry : MutBor (List ℕ)) (years : MutBor (List ℤ)) (place : MutBor ℕ)
@@ -214,7 +212,7 @@ pub njerumoy_field_stored_distance : (κs : Lfts 6) (stored : Bor (List ℕ)) (h
 njerumoy_field_stored_distance κs stored height sin_phi cos_phi sin_lambda cos_lambda year day xyz errors entry years place xyz' errors' entry' years' place' c =
     let r = stored_field_answers stored.now height sin_phi cos_phi sin_lambda cos_lambda year day c.0.0 in
     let v = r.1 in
-    (r.0, v, r.2, c.0.1 ∙ ap (result_place field_floats _) r.3, c.0.2 ∙ ap (result_place error_floats _) r.3, field_close (with_set height sin_phi cos_phi sin_lambda cos_lambda r.0) year day (Answer.Field v) (sym r.4) v refl)
+    (r.0, v, r.2, c.0.1 ∙ ap (result_place field_floats _) r.3, c.0.2 ∙ ap (result_place error_floats _) r.3, field_close (with_set height sin_phi cos_phi sin_lambda cos_lambda r.0) year day (Ok v) (sym r.4) v refl)
 
 -- the same of the entry with a stored set of either form
 pub njerumoy_field_stored_either_distance : (κs : Lfts 6) (stored : Bor (List ℕ)) (height sin_phi cos_phi sin_lambda cos_lambda : Float) (year day : ℤ) (xyz errors : MutBor (List Float)) (entry : MutBor (List ℕ)) (years : MutBor (List ℤ)) (place : MutBor ℕ)
@@ -225,7 +223,7 @@ pub njerumoy_field_stored_either_distance : (κs : Lfts 6) (stored : Bor (List �
 njerumoy_field_stored_either_distance κs stored height sin_phi cos_phi sin_lambda cos_lambda year day xyz errors entry years place xyz' errors' entry' years' place' c =
     let r = either_field_answers stored.now height sin_phi cos_phi sin_lambda cos_lambda year day c.0.0 in
     let v = r.1 in
-    (r.0, v, r.2, c.0.1 ∙ ap (result_place field_floats _) r.3, c.0.2 ∙ ap (result_place error_floats _) r.3, field_close (with_set height sin_phi cos_phi sin_lambda cos_lambda r.0) year day (Answer.Field v) (sym r.4) v refl)
+    (r.0, v, r.2, c.0.1 ∙ ap (result_place field_floats _) r.3, c.0.2 ∙ ap (result_place error_floats _) r.3, field_close (with_set height sin_phi cos_phi sin_lambda cos_lambda r.0) year day (Ok v) (sym r.4) v refl)
 
 -- the same of the entry with a lent list, over its clauses
 pub njerumoy_field_listed_distance : {M : Type 1} {𝓤 : Ura M} (𝓛 : Logic 𝓤) (mem : Memory → SProp 𝓤) (run : Routine → Fun 𝓤) (κs : Lfts 9) (height sin_phi cos_phi sin_lambda cos_lambda : Float) (year day epoch_year : ℤ)
@@ -239,4 +237,4 @@ njerumoy_field_listed_distance {𝓤 = 𝓤} 𝓛 mem run κs height sin_phi cos
     says_first 𝓤 (λ c.
     let q = listed_field_answers records.now a year day c.0 in
     let v = q.0 in
-    (v, c.1 ∙ ap (result_place field_floats _) q.1, c.2 ∙ ap (result_place error_floats _) q.1, answer_close (listed_errors records.now (epoch_year_of year)) a year day (Answer.Field v) (sym q.1) v refl))
+    (v, c.1 ∙ ap (result_place field_floats _) q.1, c.2 ∙ ap (result_place error_floats _) q.1, answer_close (listed_errors records.now (epoch_year_of year)) a year day (Ok v) (sym q.1) v refl))

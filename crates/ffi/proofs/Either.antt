@@ -1,4 +1,6 @@
--- The ways to Field of a stored set of either form: each from what the reader said, by its contract. Assumes nothing.
+-- What is said of a stored set of either form, whichever lists it is read into. Assumes nothing.
+use Rattle.refusals.specs.Paper.{Verdict, accepted, Paper, answered, after, told, both, check}
+use Rattle.std.specs.Prelude.{Ok, Err}
 use mathlib.Core.Path.{◌≡◌, refl, sym, ap, ◌∙◌}
 use mathlib.Core.Bool.{Bool, true, false, cond, ◌&&◌}
 use mathlib.Core.List.{List}
@@ -8,55 +10,23 @@ use borrow.Author.Tests.{eq-eqb}
 use lib.Dec.{eqb, leb}
 use lib.IntN.{ℤ}
 use lib.ListN.{length, take, drop}
-use lib.Ieee.{Float}
-use Rattle.refusals.specs.Paper.{Paper, answered, refused, paper, after, told, both, check}
-use Rattle.refusals.specs.declared.Refusal.{Refusal}
+use lib.Ieee.{Float, binary32, of_bits}
+use Rattle.std.proofs.lemmas.List.{length-replicate}
 use Rattle.refusals.specs.declared.Refusal.TheVariants.{Degree}
-use Rattle.refusals.specs.declared.Verdict.{Verdict}
-use Rattle.refusals.proofs.Laws.{answered_one, no_answer, no_refusal}
 use Rattle.tables.specs.Degree.{N_COEFF, degree_of, entries}
 use Rattle.lists.specs.Lists.{Long, lengths_verdict}
-use Rattle.lists.specs.Sets.{Left, Lists, ModelSet, afterwards, left, set_verdict}
+use Rattle.lists.specs.Sets.{Lists, afterwards, left, set_verdict}
 use Rattle.lists.proofs.Checked.{long_pass}
 use Rattle.stored.specs.Layout.{LONGER, content_at, field_at, list_length, number}
 use Rattle.stored.specs.Stored.{Each, either_verdict, entries_in, form_verdict, frame_of, read_either_of, says_of, set_of, verdict_of}
 use Rattle.stored.proofs.Answers.{frame_long}
 use Rattle.field.specs.Field.{asked, field_says}
 use Rattle.ffi.specs.Told.{either_field}
-
--- ---- a reader that says q and leaves the lists l, where p is what it reads
-module _ (p : Paper ModelSet) (held l : Lists) (q : Paper ℤ) (e : left q l ≡ afterwards p held) where
-  on_refused : {B : Type 0} (k : Refusal) → q ≡ paper k → (f : ModelSet → Paper B) → paper k ≡ after p f
-  on_refused {B} k r f = go p (sym r ∙ ap (λ (w : Left). w.says) e)
-    where
-      go : (o : Paper ModelSet) → paper k ≡ (afterwards o held).says → ◌≡◌ {A = Paper B} (paper k) (after o f)
-      go (answered m) h = absurd (no_answer k m.year h)
-      go (refused i x z) h = ap (λ (o : Paper ℤ). after o (λ (y : ℤ). paper {A = B} k)) h
-
-  on_answered : (y : ℤ) → q ≡ answered y → p ≡ answered (record { year = y; lists = l })
-  on_answered y r = go p (sym (ap (λ (o : Paper ℤ). left o l) r) ∙ e)
-    where
-      go : (o : Paper ModelSet) → left (answered y) l ≡ afterwards o held → o ≡ answered (record { year = y; lists = l })
-      go (answered m) h =
-          let year = answered_one y m.year (ap (λ (w : Left). w.says) h) in
-          let lists = ap (λ (w : Left). w.lists) h in
-          λ i. answered (record { year = sym year i; lists = sym lists i })
-      go (refused i x z) h = absurd (no_refusal (ap (λ (w : Left). w.says) h))
-
-module _ (s : List ℕ) (height sp cp sl cl : Float) (year day : ℤ) (q : Paper ℤ) (held l : Lists) (e : left q l ≡ afterwards (says_of (entries_in s) s) held) where
-  pub form_refused : (k : Refusal) → q ≡ paper k → paper k ≡ either_field s height sp cp sl cl year day
-  unfolding either_field
-  form_refused k r = on_refused (says_of (entries_in s) s) held l q e k r _
-
-  pub form_answered : (y : ℤ) → q ≡ answered y → field_says (asked height sp cp sl cl y l.g l.h l.g_dot l.h_dot) year day ≡ either_field s height sp cp sl cl year day
-  unfolding either_field
-  form_answered y r =
-      sym (ap (λ (p : Paper ModelSet). after p (λ m. field_says (asked height sp cp sl cl m.year m.lists.g m.lists.h m.lists.g_dot m.lists.h_dot) year day))
-      (on_answered (says_of (entries_in s) s) held l q e y r))
+use Rattle.ffi.proofs.Stored.{read_then, zeros}
 
 -- ---- lists of n entries, where bytes in order have so many: 6 and 23 are never said
-module _ (s : List ℕ) (held : Lists) (n : ℕ) (d : n ≡ entries (degree_of n)) (w : Each n held) (f : frame_of (entries_in s) s ≡ Verdict.Accepted → n ≡ entries_in s) where
-  passes : lengths_verdict held.g held.h held.g_dot held.h_dot ≡ Verdict.Accepted
+module _ (s : List ℕ) (held : Lists) (n : ℕ) (d : n ≡ entries (degree_of n)) (w : Each n held) (f : frame_of (entries_in s) s ≡ accepted → n ≡ entries_in s) where
+  passes : lengths_verdict held.g held.h held.g_dot held.h_dot ≡ accepted
   passes = long_pass held.g held.h held.g_dot held.h_dot each
     where
       each : Long held.g held.h held.g_dot held.h_dot
@@ -68,20 +38,29 @@ module _ (s : List ℕ) (held : Lists) (n : ℕ) (d : n ≡ entries (degree_of n
             hd_long = w.3 ∙ sym w.0;
           }
 
-  same_form : (k m : ℕ) (u v : Verdict) → (u ≡ Verdict.Accepted → k ≡ m) → both (both u (check (eqb k m) Degree Verdict.Accepted)) v ≡ both u v
-  same_form k m Verdict.Accepted v h = rw (eq-eqb k m (h refl))
-  same_form k m (Verdict.Refused r) v h = refl
+  same_form : (k m : ℕ) (u v : Verdict) → (u ≡ accepted → k ≡ m) → both (both u (check (eqb k m) Degree accepted)) v ≡ both u v
+  same_form k m (Ok _) v h = rw (eq-eqb k m (h refl))
+  same_form k m (Err r) v h = refl
 
   same_verdict : either_verdict s held ≡ verdict_of (entries_in s) s
   unfolding either_verdict form_verdict verdict_of
   same_verdict =
       let m = entries_in s in
-      ap (λ (u : Verdict). both u (both (both (frame_of m s) (check (eqb (length held.g) m) Degree Verdict.Accepted)) (set_verdict (set_of m s).lists))) passes
+      ap (λ (u : Verdict). both u (both (both (frame_of m s) (check (eqb (length held.g) m) Degree accepted)) (set_verdict (set_of m s).lists))) passes
       ∙ same_form (length held.g) m (frame_of m s) (set_verdict (set_of m s).lists) (λ h. w.0 ∙ f h)
 
   pub form_fits : read_either_of s held ≡ afterwards (says_of (entries_in s) s) held
   unfolding says_of
   form_fits = ap (λ (v : Verdict). afterwards (told v (answered (set_of (entries_in s) s))) held) same_verdict
+
+-- so Field is asked of the set that stands in the bytes
+module _ (s : List ℕ) (height sp cp sl cl : Float) (year day : ℤ) (q : Paper ℤ) (l : Lists) (n : ℕ) (d : n ≡ entries (degree_of n)) (f : frame_of (entries_in s) s ≡ accepted → n ≡ entries_in s) where
+  pub form_read : left q l ≡ read_either_of s (zeros n) → after q (λ y. field_says (asked height sp cp sl cl y l.g l.h l.g_dot l.h_dot) year day) ≡ either_field s height sp cp sl cl year day
+  unfolding either_field
+  form_read e =
+      let w = length-replicate n (of_bits binary32 0) in
+      read_then (says_of (entries_in s) s) (zeros n) l q (e ∙ form_fits s (zeros n) n d (w, w, w, w) f)
+      (λ m. field_says (asked height sp cp sl cl m.year m.lists.g m.lists.h m.lists.g_dot m.lists.h_dot) year day)
 
 -- both lengths are those of a degree
 pub ninety_whole : N_COEFF ≡ entries (degree_of N_COEFF)
@@ -98,18 +77,18 @@ abbrev of_longer : List ℕ → Bool
 of_longer s = leb (content_at N_COEFF 1) (length s) && eqb (number (take 2 (drop (field_at N_COEFF 1 + 1) s))) (list_length LONGER)
 
 module _ (s : List ℕ) where
-  by_length : (b : Bool) → length s ≡ 1681 → frame_of (cond b LONGER N_COEFF) s ≡ Verdict.Accepted → LONGER ≡ cond b LONGER N_COEFF
+  by_length : (b : Bool) → length s ≡ 1681 → frame_of (cond b LONGER N_COEFF) s ≡ accepted → LONGER ≡ cond b LONGER N_COEFF
   by_length true h f = refl
   by_length false h f = let l : length s ≡ 1457 = frame_long N_COEFF s _ refl f in absurd (omega (arith, l, h))
 
-  by_other_length : (b : Bool) → (length s ≡ 1681 → ⊥) → frame_of (cond b LONGER N_COEFF) s ≡ Verdict.Accepted → N_COEFF ≡ cond b LONGER N_COEFF
+  by_other_length : (b : Bool) → (length s ≡ 1681 → ⊥) → frame_of (cond b LONGER N_COEFF) s ≡ accepted → N_COEFF ≡ cond b LONGER N_COEFF
   by_other_length true h f = absurd (h (frame_long LONGER s _ refl f))
   by_other_length false h f = refl
 
-  pub longer_form : length s ≡ 1681 → frame_of (entries_in s) s ≡ Verdict.Accepted → LONGER ≡ entries_in s
+  pub longer_form : length s ≡ 1681 → frame_of (entries_in s) s ≡ accepted → LONGER ≡ entries_in s
   unfolding entries_in
   longer_form h f = by_length (of_longer s) h f
 
-  pub shorter_form : (length s ≡ 1681 → ⊥) → frame_of (entries_in s) s ≡ Verdict.Accepted → N_COEFF ≡ entries_in s
+  pub shorter_form : (length s ≡ 1681 → ⊥) → frame_of (entries_in s) s ≡ accepted → N_COEFF ≡ entries_in s
   unfolding entries_in
   shorter_form h f = by_other_length (of_longer s) h f

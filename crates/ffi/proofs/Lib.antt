@@ -1,8 +1,7 @@
 -- What the proofs of the entries share; then that each contract leaves one result, and what a returned 0 means.
 mod Refused
-mod Answered
 mod Stored
 mod Either
-mod Zero
+pub mod Zero
 pub mod Unique
 pub mod Distance

@@ -1,52 +1,21 @@
--- What a caller is told of a refusal. Its number and what it carries do not turn on the answer that it stands in for. Assumes nothing.
+-- The refusals that tell no place. No function's proof cites them: the check finds its way through the cases. Assumes nothing.
 use mathlib.Core.Path.{◌≡◌, sym, ap, subst, ◌∙◌}
 use mathlib.Core.Bool.{Bool, false, not, ◌||◌, cond}
 use mathlib.Core.List.{List, [], ◌∷◌, map}
 use Prim.Native.Nat.{ℕ, suc}
 use lib.Dec.{T, eqb}
-use lib.IntN.{ℤ, pos, nat_abs}
+use lib.IntN.{pos, nat_abs}
 use lib.ListN.{get_or}
-use lib.Ieee.{Float}
-use mir.Syntax.{w32}
-use mir.Val.{SFits, of_z, to_z, has_key}
-use mir.ValLaws.{to_z-of_z}
+use mir.Val.{has_key}
 use types.Run.{OneOf, miss}
 use denote.Struct.Field.{Field}
 use borrow.Author.Tests.{ne_eqb}
 use Rattle.refusals.specs.declared.Refusal.{Refusal}
-use Rattle.refusals.specs.declared.Refusal.TheVariants.{Coefficient, Malformed, OtherEpoch, OutOfOrder, WrongEnd, WrongLength, WrongTag}
-use Rattle.refusals.specs.Paper.{Paper, line, paper}
+use Rattle.refusals.specs.declared.Refusal.TheVariants.{Malformed, OutOfOrder, WrongEnd, WrongLength, WrongTag}
+use Rattle.refusals.specs.Paper.{line, paper}
 use Rattle.refusals.specs.contracts.Refusal.{the_type}
 use Rattle.refusals.proofs.Laws.{case, same_case}
-use Rattle.strengths.specs.Grid.{Variation}
-use Rattle.ffi.specs.Told.{number_of, result_place, entry_place, where_place, years_place, variation_place}
-
--- ---- where a call says p, and p is the refusal k
-module _ {A : Type 0} (k : Refusal) (p : Paper A) (e : paper k ≡ p) where
-  pub number_refused : (line k).number ≡ number_of p
-  number_refused = ap number_of e
-
-  pub kept_refused : {B : Type 0} (w : A → B) (held : B) → held ≡ result_place w held p
-  kept_refused w held = ap (result_place w held) e
-
-  pub entry_refused : (held : List ℕ) → entry_place held (paper {A = ℕ} k) ≡ entry_place held p
-  entry_refused held = ap (entry_place held) e
-
-  pub years_refused : (held : List ℤ) → years_place held (paper {A = ℕ} k) ≡ years_place held p
-  years_refused held = ap (years_place held) e
-
-  pub where_refused : (held : ℕ) → where_place held (paper {A = ℕ} k) ≡ where_place held p
-  where_refused held = ap (where_place held) e
-
-pub variation_refused : (k : Refusal) (p : Paper Variation) → paper k ≡ p → (held : Float) → held ≡ variation_place held p
-variation_refused k p e held = ap (variation_place held) e
-
--- ---- refusals 7, 8, and those of a reader
-pub entry_noted : (held : List ℕ) (l i : ℕ) (k : Refusal) → k ≡ Coefficient l i → l ∷ i ∷ [] ≡ entry_place held (paper {A = ℕ} k)
-entry_noted held l i k e = sym (ap (λ (r : Refusal). entry_place held (paper {A = ℕ} r)) e)
-
-pub years_noted : (held : List ℤ) (d s : ℤ) (k : Refusal) → k ≡ OtherEpoch d s → SFits w32 d → SFits w32 s → to_z w32 (of_z w32 d) ∷ to_z w32 (of_z w32 s) ∷ [] ≡ years_place held (paper {A = ℕ} k)
-years_noted held d s k e f g = rw (to_z-of_z w32 d f, to_z-of_z w32 s g) (sym (ap (λ (r : Refusal). years_place held (paper {A = ℕ} r)) e))
+use Rattle.ffi.specs.Told.{where_place}
 
 -- 13, 14, 17, 18 and 19: what l tells
 pub where_noted : (held i : ℕ) (k l : Refusal) → k ≡ l → i ≡ where_place held (paper {A = ℕ} l) → i ≡ where_place held (paper {A = ℕ} k)
@@ -69,12 +38,6 @@ other_number cs k l n c = ne_eqb _ _ (λ e. miss cs (case l) n (subst (OneOf cs)
 -- one of two, by a test that fails
 not_taken : {A : Type 0} (b : Bool) (x y : A) → b ≡ false → y ≡ cond b x y
 not_taken b x y e = rw e
-
-pub entry_kept : (held : List ℕ) (k : Refusal) → OneOf (all_but (Coefficient 0 0 ∷ [])) (case k) → held ≡ entry_place held (paper {A = ℕ} k)
-entry_kept held k c = not_taken (eqb (line k).number 7) _ held (other_number (all_but (Coefficient 0 0 ∷ [])) k (Coefficient 0 0) tt c)
-
-pub years_kept : (held : List ℤ) (k : Refusal) → OneOf (all_but (OtherEpoch (pos 0) (pos 0) ∷ [])) (case k) → held ≡ years_place held (paper {A = ℕ} k)
-years_kept held k c = not_taken (eqb (line k).number 8) _ held (other_number (all_but (OtherEpoch (pos 0) (pos 0) ∷ [])) k (OtherEpoch (pos 0) (pos 0)) tt c)
 
 -- the refusals that tell where a reader stopped
 abbrev pub tells_where : List Refusal

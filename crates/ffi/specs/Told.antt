@@ -1,13 +1,12 @@
 -- What a caller in another language is told of an answer: one number, and what the places hold that it lent for results. Definitions only.
-use Rattle.std.specs.Prelude.{◌||◌, cond, List, [], ◌∷◌, ℕ, eqb, ℤ, pos, nat_abs, get_or, Float}
-use Rattle.refusals.specs.Paper.{Paper, answered, refused, after, told}
-use Rattle.refusals.specs.declared.Verdict.{Verdict}
+use Rattle.std.specs.Prelude.{◌||◌, cond, List, [], ◌∷◌, ℕ, eqb, ℤ, pos, nat_abs, get_or, Float, Option, Some, None}
+use Rattle.refusals.specs.Paper.{Paper, Verdict, answered, refused, after, told}
 use Rattle.trig.specs.declared.Pair.{Pair}
 use Rattle.models.specs.declared.epochs.EpochOffset.{EpochOffset}
 use Rattle.synthesis.specs.declared.Xyz.{Xyz}
 use Rattle.strengths.specs.declared.GeomagneticField.{GeomagneticField}
-use Rattle.strengths.specs.Strengths.{Warning, blackout, caution, no_zone}
-use Rattle.strengths.specs.Grid.{Variation, degrees, absent}
+use Rattle.strengths.specs.declared.WarningZone.{WarningZone}
+use Rattle.strengths.specs.declared.WarningZone.TheVariants.{Blackout, Caution}
 use Rattle.stored.specs.Stored.{entries_in, says_of, stored_says}
 use Rattle.field.specs.Field.{asked, field_says}
 use Rattle.rates.specs.declared.YearlyRates.{YearlyRates}
@@ -85,10 +84,10 @@ error_floats v =
     e.declination_sigma_c ∷ e.declination_sigma_v ∷ e.inclination ∷ e.f ∷ e.h ∷ e.x ∷ e.y ∷ e.z ∷ []
 
 -- a zone: 0 none, 1 blackout, 2 caution
-abbrev pub zone_number : Warning → ℕ
-zone_number blackout = 1
-zone_number caution = 2
-zone_number no_zone = 0
+abbrev pub zone_number : Option WarningZone → ℕ
+zone_number (Some Blackout) = 1
+zone_number (Some Caution) = 2
+zone_number None = 0
 
 -- an epoch's year and its offset
 abbrev pub year_of : EpochOffset → ℤ
@@ -113,11 +112,11 @@ abbrev pub whole : ℤ → ℤ
 whole y = y
 
 -- ---- grid variation: whether there is one, and the place for it, which keeps what it held where there is none
-abbrev pub is_given : Variation → ℕ
-is_given (degrees x) = 1
-is_given absent = 0
+abbrev pub is_given : Option Float → ℕ
+is_given (Some x) = 1
+is_given None = 0
 
-abbrev pub variation_place : Float → Paper Variation → Float
-variation_place held (answered (degrees x)) = x
-variation_place held (answered absent) = held
+abbrev pub variation_place : Float → Paper (Option Float) → Float
+variation_place held (answered (Some x)) = x
+variation_place held (answered None) = held
 variation_place held (refused n f z) = held

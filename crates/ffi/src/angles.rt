@@ -4,23 +4,16 @@ ghost use Rattle.trig.specs.Fixed.{sine_says};
 ghost use Rattle.strengths.specs.Angles.{declination_says};
 ghost use Rattle.ffi.specs.Told.{number_of, result_place, itself, sine_of, cosine_of};
 
-use crate::tell::tell_strength;
-use refusals::number;
-use trig::PairAnswer;
+use crate::tell::tell;
 
 #[unsafe(no_mangle)]
 pub extern "C" fn njerumoy_sine_and_cosine(degrees: f32, sine: &mut f32, cosine: &mut f32) -> u32
     ensures { let p = sine_says degrees in
         (result ≡ number_of p) × (sine.new ≡ result_place sine_of sine.old p) × (cosine.new ≡ result_place cosine_of cosine.old p) }
 {
-    match trig::sine_and_cosine(degrees) {
-        PairAnswer::Made(p) => {
-            *sine = p.sine;
-            *cosine = p.cosine;
-            0
-        }
-        PairAnswer::Refused(k) => number(k),
-    }
+    let answer = trig::sine_and_cosine(degrees);
+    tell(answer.map(|p| p.sine), sine);
+    tell(answer.map(|p| p.cosine), cosine)
 }
 
 #[unsafe(no_mangle)]
@@ -28,5 +21,5 @@ pub extern "C" fn njerumoy_declination(x: f32, y: f32, declination: &mut f32) ->
     ensures { let p = declination_says x y in
         (result ≡ number_of p) × (declination.new ≡ result_place itself declination.old p) }
 {
-    tell_strength(strengths::declination(x, y), declination)
+    tell(strengths::declination(x, y), declination)
 }

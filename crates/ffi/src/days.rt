@@ -3,8 +3,8 @@ ghost use Rattle.std.specs.Prelude.{◌≡◌};
 ghost use Rattle.models.specs.Epochs.{epoch_says};
 ghost use Rattle.ffi.specs.Told.{number_of, result_place, year_of, offset_of};
 
-use models::EpochAnswer;
-use refusals::number;
+use crate::tell::tell;
+use refusals::Day;
 
 #[unsafe(no_mangle)]
 pub extern "C" fn njerumoy_epoch(
@@ -16,13 +16,7 @@ pub extern "C" fn njerumoy_epoch(
     ensures { let p = epoch_says year day_of_year in
         (result ≡ number_of p) × (epoch_year.new ≡ result_place year_of epoch_year.old p) × (offset.new ≡ result_place offset_of offset.old p) }
 {
-    match models::epoch(year, day_of_year) {
-        EpochAnswer::Epoch(e) => {
-            let of_day = e.epoch_year;
-            *epoch_year = of_day;
-            *offset = e.offset;
-            0
-        }
-        EpochAnswer::Refused(k) => number(k),
-    }
+    let answer = models::epoch(Day { year, day_of_year });
+    tell(answer.map(|e| e.epoch_year), epoch_year);
+    tell(answer.map(|e| e.offset), offset)
 }

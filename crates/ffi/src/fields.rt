@@ -5,16 +5,15 @@ ghost use Rattle.degrees.specs.Degrees.{place, degrees_says};
 ghost use Rattle.models.specs.Epochs.{epoch_offset};
 ghost use Rattle.igrf.specs.Igrf.{early, profile};
 ghost use Rattle.allowance.specs.declared.Allowances.{Allowances};
-ghost use Rattle.allowance.specs.Allowance.{allowance_says, said};
+ghost use Rattle.allowance.specs.Allowance.{allowance_says};
 ghost use Rattle.allowance.specs.Profile.{IgrfCovered, igrf_allowance_says};
 ghost use Rattle.ffi.specs.Told.{number_of, result_place, entry_place, years_place, field_floats, error_floats, allowance_floats};
 
-use crate::refuse::tell_refusal;
-use crate::tell::tell_field;
-use allowance::AllowanceAnswer;
-use field::Latitude;
+use crate::asks;
+use crate::tell::{tell_dated, tell_field};
+use allowance::Allowances;
+use lists::SecondSet;
 use refusals::Day;
-use synthesis::Longitude;
 
 #[unsafe(no_mangle)]
 pub extern "C" fn njerumoy_field(
@@ -40,18 +39,9 @@ pub extern "C" fn njerumoy_field(
         × (entry.new ≡ entry_place entry.old p) × (years.new ≡ years_place years.old p) }
     ensures kept { (g.exit.now ≡ g.entry.now) × (h.exit.now ≡ h.entry.now) × (g_dot.exit.now ≡ g_dot.entry.now) × (h_dot.exit.now ≡ h_dot.entry.now) }
 {
-    let latitude = Latitude {
-        sin: sin_phi,
-        cos: cos_phi,
-    };
-    let longitude = Longitude {
-        sin: sin_lambda,
-        cos: cos_lambda,
-    };
-    let day = Day { year, day_of_year };
-    let answer = field::field(
-        height, latitude, longitude, day, epoch_year, g, h, g_dot, h_dot,
-    );
+    let place = asks::place(height, sin_phi, cos_phi, sin_lambda, cos_lambda);
+    let set = asks::set(epoch_year, g, h, g_dot, h_dot);
+    let answer = field::field(place, Day { year, day_of_year }, set);
     tell_field(answer, xyz, errors, entry, years)
 }
 
@@ -77,19 +67,17 @@ pub extern "C" fn njerumoy_field_in_degrees(
         × (entry.new ≡ entry_place entry.old p) × (years.new ≡ years_place years.old p) }
     ensures kept { (g.exit.now ≡ g.entry.now) × (h.exit.now ≡ h.entry.now) × (g_dot.exit.now ≡ g_dot.entry.now) × (h_dot.exit.now ≡ h_dot.entry.now) }
 {
+    let set = asks::set(epoch_year, g, h, g_dot, h_dot);
     let day = Day { year, day_of_year };
-    let answer = degrees::field_in_degrees(
-        height,
-        latitude_deg,
-        longitude_deg,
-        day,
-        epoch_year,
-        g,
-        h,
-        g_dot,
-        h_dot,
-    );
+    let answer = degrees::field_in_degrees(height, latitude_deg, longitude_deg, day, set);
     tell_field(answer, xyz, errors, entry, years)
+}
+
+// The allowances of X, Y and Z.
+fn allowance_floats(v: Allowances) -> [f32; 3]
+    ensures { result ≡ allowance_floats v }
+{
+    [v.x, v.y, v.z]
 }
 
 #[unsafe(no_mangle)]
@@ -115,19 +103,10 @@ pub extern "C" fn njerumoy_allowance(
         × (entry.new ≡ entry_place entry.old p) × (years.new ≡ years_place years.old p) }
     ensures kept { (g.exit.now ≡ g.entry.now) × (h.exit.now ≡ h.entry.now) × (g_dot.exit.now ≡ g_dot.entry.now) × (h_dot.exit.now ≡ h_dot.entry.now) }
 {
-    let latitude = Latitude {
-        sin: sin_phi,
-        cos: cos_phi,
-    };
-    let longitude = Longitude {
-        sin: sin_lambda,
-        cos: cos_lambda,
-    };
-    let day = Day { year, day_of_year };
-    let answer = allowance::allowance(
-        height, latitude, longitude, day, epoch_year, g, h, g_dot, h_dot,
-    );
-    tell_allowance(answer, allowances, entry, years)
+    let place = asks::place(height, sin_phi, cos_phi, sin_lambda, cos_lambda);
+    let set = asks::set(epoch_year, g, h, g_dot, h_dot);
+    let answer = allowance::allowance(place, Day { year, day_of_year }, set);
+    tell_dated(answer.map(allowance_floats), allowances, entry, years)
 }
 
 // In the IGRF profile. `covers` is of what is written where 0 is returned: each number is at least demand
@@ -160,47 +139,13 @@ pub extern "C" fn njerumoy_igrf_allowance(
         × IgrfCovered (profile (asked height sin_phi cos_phi sin_lambda cos_lambda epoch_year g.now h.now g_dot.now h_dot.now) second_epoch_year second_g.now second_h.now) (early year) (epoch_offset year day_of_year) v }
     ensures kept { (g.exit.now ≡ g.entry.now) × (h.exit.now ≡ h.entry.now) × (g_dot.exit.now ≡ g_dot.entry.now) × (h_dot.exit.now ≡ h_dot.entry.now) × (second_g.exit.now ≡ second_g.entry.now) × (second_h.exit.now ≡ second_h.entry.now) }
 {
-    let latitude = Latitude {
-        sin: sin_phi,
-        cos: cos_phi,
+    let place = asks::place(height, sin_phi, cos_phi, sin_lambda, cos_lambda);
+    let first = asks::set(epoch_year, g, h, g_dot, h_dot);
+    let second = SecondSet {
+        epoch_year: second_epoch_year,
+        g: second_g,
+        h: second_h,
     };
-    let longitude = Longitude {
-        sin: sin_lambda,
-        cos: cos_lambda,
-    };
-    let day = Day { year, day_of_year };
-    let answer = allowance::igrf_allowance(
-        height,
-        latitude,
-        longitude,
-        day,
-        epoch_year,
-        g,
-        h,
-        g_dot,
-        h_dot,
-        second_epoch_year,
-        second_g,
-        second_h,
-    );
-    tell_allowance(answer, allowances, entry, years)
-}
-
-// The allowances, and what a refusal of Field or of the profile carries.
-fn tell_allowance(
-    answer: AllowanceAnswer,
-    allowances: &mut [f32; 3],
-    entry: &mut [usize; 2],
-    years: &mut [i32; 2],
-) -> u32
-    ensures { (result ≡ number_of (said answer)) × (allowances.new ≡ result_place allowance_floats allowances.old (said answer))
-        × (entry.new ≡ entry_place entry.old (said answer)) × (years.new ≡ years_place years.old (said answer)) }
-{
-    match answer {
-        AllowanceAnswer::Allowance(v) => {
-            *allowances = [v.x, v.y, v.z];
-            0
-        }
-        AllowanceAnswer::Refused(k) => tell_refusal(k, entry, years),
-    }
+    let answer = allowance::igrf_allowance(place, Day { year, day_of_year }, first, second);
+    tell_dated(answer.map(allowance_floats), allowances, entry, years)
 }

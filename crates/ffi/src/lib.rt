@@ -1,9 +1,12 @@
 // The library for programs in other languages: each entry on numbers and slices. A call returns the
 // refusal's number, 0 for an answer, and writes to a place that was lent for a result only where it
 // has that result. None has a `requires`: whatever numbers come, the call ends and says so.
+// C has no lifetimes and no `Result`, so places, sets and answers stand flat in the entries alone: `asks`
+// makes the library's own values of them, and `tell` writes its answers back.
 #![tactic(auto)]
 
 mod angles;
+mod asks;
 mod days;
 mod fields;
 mod files;
@@ -11,7 +14,6 @@ mod forms;
 mod listed;
 mod profile;
 mod records;
-mod refuse;
 mod sets;
 mod sum;
 mod tell;

@@ -1,62 +1,14 @@
-// Field and the uncertainty with a lent list of error records. Each of the two
-// entries searches the list, and hands the figures to a function with plain parameters.
+// Field and the uncertainty with a lent list of error records.
 ghost use Rattle.std.specs.Prelude.{◌≡◌};
-ghost use Rattle.models.specs.Errors.{error_said};
-ghost use Rattle.strengths.specs.Strengths.{bare, uncertainty_with, listed_uncertainty};
-ghost use Rattle.field.specs.Field.{asked, field_with, listed_field};
+ghost use Rattle.strengths.specs.Strengths.{bare, listed_uncertainty};
+ghost use Rattle.field.specs.Field.{asked, listed_field};
 ghost use Rattle.ffi.specs.Told.{number_of, result_place, itself, entry_place, years_place, field_floats, error_floats};
 
-use crate::tell::{tell_field, tell_strength};
-use field::Latitude;
-use models::{ErrorModelAnswer, ErrorRecord};
+use crate::asks;
+use crate::tell::{tell, tell_field};
+use models::ErrorRecord;
 use refusals::Day;
 use strengths::bare_record;
-use synthesis::Longitude;
-
-fn told_field(
-    height: f32,
-    sin_phi: f32,
-    cos_phi: f32,
-    sin_lambda: f32,
-    cos_lambda: f32,
-    year: i32,
-    day_of_year: i32,
-    epoch_year: i32,
-    g: &[f32],
-    h: &[f32],
-    g_dot: &[f32],
-    h_dot: &[f32],
-    figures: ErrorModelAnswer,
-    xyz: &mut [f32; 3],
-    errors: &mut [f32; 8],
-    entry: &mut [usize; 2],
-    years: &mut [i32; 2],
-) -> u32
-    ensures { let p = field_with (error_said figures) (asked height sin_phi cos_phi sin_lambda cos_lambda epoch_year g.now h.now g_dot.now h_dot.now) year day_of_year in
-        (result ≡ number_of p) × (xyz.new ≡ result_place field_floats xyz.old p) × (errors.new ≡ result_place error_floats errors.old p)
-        × (entry.new ≡ entry_place entry.old p) × (years.new ≡ years_place years.old p) }
-{
-    let latitude = Latitude {
-        sin: sin_phi,
-        cos: cos_phi,
-    };
-    let longitude = Longitude {
-        sin: sin_lambda,
-        cos: cos_lambda,
-    };
-    let day = Day { year, day_of_year };
-    let answer = field::field_with(
-        height, latitude, longitude, day, epoch_year, g, h, g_dot, h_dot, figures,
-    );
-    tell_field(answer, xyz, errors, entry, years)
-}
-
-fn told_uncertainty(x: f32, y: f32, z: f32, figures: ErrorModelAnswer, uncertainty: &mut f32) -> u32
-    ensures { let p = uncertainty_with (error_said figures) (bare x y z) in
-        (result ≡ number_of p) × (uncertainty.new ≡ result_place itself uncertainty.old p) }
-{
-    tell_strength(bare_record(x, y, z).uncertainty_with(figures), uncertainty)
-}
 
 #[unsafe(no_mangle)]
 pub extern "C" fn njerumoy_field_listed(
@@ -83,26 +35,10 @@ pub extern "C" fn njerumoy_field_listed(
         × (entry.new ≡ entry_place entry.old p) × (years.new ≡ years_place years.old p) }
     ensures kept { (g.exit.now ≡ g.entry.now) × (h.exit.now ≡ h.entry.now) × (g_dot.exit.now ≡ g_dot.entry.now) × (h_dot.exit.now ≡ h_dot.entry.now) × (records.exit.now ≡ records.entry.now) }
 {
-    let figures = models::error_model_listed(records, epoch_year);
-    told_field(
-        height,
-        sin_phi,
-        cos_phi,
-        sin_lambda,
-        cos_lambda,
-        year,
-        day_of_year,
-        epoch_year,
-        g,
-        h,
-        g_dot,
-        h_dot,
-        figures,
-        xyz,
-        errors,
-        entry,
-        years,
-    )
+    let place = asks::place(height, sin_phi, cos_phi, sin_lambda, cos_lambda);
+    let set = asks::set(epoch_year, g, h, g_dot, h_dot);
+    let answer = field::field_listed(place, Day { year, day_of_year }, set, records);
+    tell_field(answer, xyz, errors, entry, years)
 }
 
 #[unsafe(no_mangle)]
@@ -118,6 +54,6 @@ pub extern "C" fn njerumoy_declination_uncertainty_listed(
         (result ≡ number_of p) × (uncertainty.new ≡ result_place itself uncertainty.old p) }
     ensures kept { records.exit.now ≡ records.entry.now }
 {
-    let figures = models::error_model_listed(records, epoch_year);
-    told_uncertainty(x, y, z, figures, uncertainty)
+    let answer = bare_record(x, y, z).declination_uncertainty_listed(records, epoch_year);
+    tell(answer, uncertainty)
 }

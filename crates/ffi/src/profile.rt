@@ -3,32 +3,20 @@ ghost use Rattle.std.specs.Prelude.{◌≡◌};
 ghost use Rattle.models.specs.Epochs.{epoch_offset};
 ghost use Rattle.synthesis.specs.declared.Xyz.{Xyz};
 ghost use Rattle.field.specs.Field.{asked};
-ghost use Rattle.igrf.specs.Igrf.{IgrfClose, early, igrf_says, profile, said};
+ghost use Rattle.igrf.specs.Igrf.{IgrfClose, early, igrf_says, profile};
 ghost use Rattle.ffi.specs.Told.{number_of, result_place, entry_place, years_place, xyz_floats};
 
-use crate::refuse::tell_refusal;
-use field::Latitude;
-use igrf::IgrfAnswer;
+use crate::asks;
+use crate::tell::tell_dated;
+use lists::SecondSet;
 use refusals::Day;
-use synthesis::Longitude;
+use synthesis::Xyz;
 
-// X, Y and Z, and what a refusal of the profile carries.
-fn tell_igrf(
-    answer: IgrfAnswer,
-    xyz: &mut [f32; 3],
-    entry: &mut [usize; 2],
-    years: &mut [i32; 2],
-) -> u32
-    ensures { (result ≡ number_of (said answer)) × (xyz.new ≡ result_place xyz_floats xyz.old (said answer))
-        × (entry.new ≡ entry_place entry.old (said answer)) × (years.new ≡ years_place years.old (said answer)) }
+// X, Y and Z.
+fn xyz_floats(v: Xyz) -> [f32; 3]
+    ensures { result ≡ xyz_floats v }
 {
-    match answer {
-        IgrfAnswer::Components(v) => {
-            *xyz = [v.x, v.y, v.z];
-            0
-        }
-        IgrfAnswer::Refused(k) => tell_refusal(k, entry, years),
-    }
+    [v.x, v.y, v.z]
 }
 
 // `distance` is demand 3 of what is written where 0 is returned.
@@ -60,28 +48,13 @@ pub extern "C" fn njerumoy_igrf(
         × IgrfClose (profile (asked height sin_phi cos_phi sin_lambda cos_lambda epoch_year g.now h.now g_dot.now h_dot.now) second_epoch_year second_g.now second_h.now) (early year) (epoch_offset year day_of_year) v }
     ensures kept { (g.exit.now ≡ g.entry.now) × (h.exit.now ≡ h.entry.now) × (g_dot.exit.now ≡ g_dot.entry.now) × (h_dot.exit.now ≡ h_dot.entry.now) × (second_g.exit.now ≡ second_g.entry.now) × (second_h.exit.now ≡ second_h.entry.now) }
 {
-    let latitude = Latitude {
-        sin: sin_phi,
-        cos: cos_phi,
+    let place = asks::place(height, sin_phi, cos_phi, sin_lambda, cos_lambda);
+    let first = asks::set(epoch_year, g, h, g_dot, h_dot);
+    let second = SecondSet {
+        epoch_year: second_epoch_year,
+        g: second_g,
+        h: second_h,
     };
-    let longitude = Longitude {
-        sin: sin_lambda,
-        cos: cos_lambda,
-    };
-    let day = Day { year, day_of_year };
-    let answer = igrf::igrf(
-        height,
-        latitude,
-        longitude,
-        day,
-        epoch_year,
-        g,
-        h,
-        g_dot,
-        h_dot,
-        second_epoch_year,
-        second_g,
-        second_h,
-    );
-    tell_igrf(answer, xyz, entry, years)
+    let answer = igrf::igrf(place, Day { year, day_of_year }, first, second);
+    tell_dated(answer.map(xyz_floats), xyz, entry, years)
 }

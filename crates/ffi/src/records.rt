@@ -6,17 +6,15 @@ ghost use Rattle.strengths.specs.Angles.{declination_of, inclination_of};
 ghost use Rattle.strengths.specs.Grid.{grid_says};
 ghost use Rattle.ffi.specs.Told.{number_of, result_place, itself, zone_number, is_given, variation_place};
 
-use crate::tell::tell_strength;
-use refusals::number;
-use roots::RootAnswer;
-use strengths::{GridAnswer, ZoneAnswer, bare_record};
+use crate::tell::tell;
+use strengths::{WarningZone, bare_record};
 
 #[unsafe(no_mangle)]
 pub extern "C" fn njerumoy_horizontal(x: f32, y: f32, z: f32, h: &mut f32) -> u32
     ensures { let p = strength_says (bare x y z) (h_of (bare x y z)) in
         (result ≡ number_of p) × (h.new ≡ result_place itself h.old p) }
 {
-    tell_strength(bare_record(x, y, z).h(), h)
+    tell(bare_record(x, y, z).h(), h)
 }
 
 #[unsafe(no_mangle)]
@@ -24,7 +22,18 @@ pub extern "C" fn njerumoy_total(x: f32, y: f32, z: f32, f: &mut f32) -> u32
     ensures { let p = strength_says (bare x y z) (f_of (bare x y z)) in
         (result ≡ number_of p) × (f.new ≡ result_place itself f.old p) }
 {
-    tell_strength(bare_record(x, y, z).f(), f)
+    tell(bare_record(x, y, z).f(), f)
+}
+
+// The number of a zone.
+fn zone_number(zone: Option<WarningZone>) -> u32
+    ensures { result ≡ zone_number zone }
+{
+    match zone {
+        None => 0,
+        Some(WarningZone::Blackout) => 1,
+        Some(WarningZone::Caution) => 2,
+    }
 }
 
 #[unsafe(no_mangle)]
@@ -32,21 +41,8 @@ pub extern "C" fn njerumoy_zone(x: f32, y: f32, z: f32, zone: &mut u32) -> u32
     ensures { let p = zone_says (bare x y z) in
         (result ≡ number_of p) × (zone.new ≡ result_place zone_number zone.old p) }
 {
-    match bare_record(x, y, z).declination_warning() {
-        ZoneAnswer::Blackout => {
-            *zone = 1;
-            0
-        }
-        ZoneAnswer::Caution => {
-            *zone = 2;
-            0
-        }
-        ZoneAnswer::NoZone => {
-            *zone = 0;
-            0
-        }
-        ZoneAnswer::Refused(k) => number(k),
-    }
+    let answer = bare_record(x, y, z).declination_warning();
+    tell(answer.map(zone_number), zone)
 }
 
 #[unsafe(no_mangle)]
@@ -54,7 +50,7 @@ pub extern "C" fn njerumoy_field_declination(x: f32, y: f32, z: f32, declination
     ensures { let p = strength_says (bare x y z) (declination_of (bare x y z)) in
         (result ≡ number_of p) × (declination.new ≡ result_place itself declination.old p) }
 {
-    tell_strength(bare_record(x, y, z).declination(), declination)
+    tell(bare_record(x, y, z).declination(), declination)
 }
 
 #[unsafe(no_mangle)]
@@ -62,7 +58,7 @@ pub extern "C" fn njerumoy_inclination(x: f32, y: f32, z: f32, inclination: &mut
     ensures { let p = strength_says (bare x y z) (inclination_of (bare x y z)) in
         (result ≡ number_of p) × (inclination.new ≡ result_place itself inclination.old p) }
 {
-    tell_strength(bare_record(x, y, z).inclination(), inclination)
+    tell(bare_record(x, y, z).inclination(), inclination)
 }
 
 #[unsafe(no_mangle)]
@@ -77,7 +73,7 @@ pub extern "C" fn njerumoy_declination_uncertainty(
         (result ≡ number_of p) × (uncertainty.new ≡ result_place itself uncertainty.old p) }
 {
     let answer = bare_record(x, y, z).declination_uncertainty(epoch_year);
-    tell_strength(answer, uncertainty)
+    tell(answer, uncertainty)
 }
 
 #[unsafe(no_mangle)]
@@ -91,18 +87,11 @@ pub extern "C" fn njerumoy_grid_variation(
     ensures { let p = grid_says latitude_deg longitude_deg declination_deg in
         (result ≡ number_of p) × (given.new ≡ result_place is_given given.old p) × (variation.new ≡ variation_place variation.old p) }
 {
-    match strengths::grid_variation(latitude_deg, longitude_deg, declination_deg) {
-        GridAnswer::Variation(v) => {
-            *given = 1;
-            *variation = v;
-            0
-        }
-        GridAnswer::Absent => {
-            *given = 0;
-            0
-        }
-        GridAnswer::Refused(k) => number(k),
+    let answer = strengths::grid_variation(latitude_deg, longitude_deg, declination_deg);
+    if let Ok(Some(degrees)) = answer {
+        *variation = degrees;
     }
+    tell(answer.map(|v| v.is_some() as u32), given)
 }
 
 #[unsafe(no_mangle)]
@@ -110,11 +99,5 @@ pub extern "C" fn njerumoy_square_root(x: f32, root: &mut f32) -> u32
     ensures { let p = root_says x in
         (result ≡ number_of p) × (root.new ≡ result_place itself root.old p) }
 {
-    match roots::square_root(x) {
-        RootAnswer::Root(r) => {
-            *root = r;
-            0
-        }
-        RootAnswer::Refused(k) => number(k),
-    }
+    tell(roots::square_root(x), root)
 }

@@ -1,16 +1,15 @@
 // A stored set: reading it, writing it, and Field by its bytes.
 ghost use Rattle.std.specs.Prelude.{◌≡◌};
+ghost use Rattle.refusals.specs.Paper.{said};
 ghost use Rattle.lists.specs.Sets.{lists_of};
 ghost use Rattle.stored.specs.Stored.{read_either_of, read_of, write_either_of, write_of};
-ghost use Rattle.field.specs.Field as field;
 ghost use Rattle.ffi.specs.Told.{number_of, result_place, entry_place, where_place, years_place, verdict_number, verdict_entry, whole, field_floats, error_floats, stored_field};
 
-use crate::refuse::{note_entry, note_where};
-use crate::tell::{tell_field, tell_read};
-use field::{FieldAnswer, Latitude};
-use lists::ReadAnswer;
-use refusals::{Day, Verdict, number};
-use synthesis::Longitude;
+use crate::asks;
+use crate::tell::{note_entry, note_where, number, tell_field, tell_read};
+use field::Place;
+use refusals::{Day, Refusal, Verdict};
+use strengths::GeomagneticField;
 use tables::N_COEFF;
 
 #[unsafe(no_mangle)]
@@ -70,7 +69,8 @@ pub extern "C" fn njerumoy_write_stored(
         (result ≡ verdict_number w.found) × (stored.new ≡ w.bytes) × (entry.new ≡ verdict_entry entry.old w.found) }
     ensures kept { (g.exit.now ≡ g.entry.now) × (h.exit.now ≡ h.entry.now) × (g_dot.exit.now ≡ g_dot.entry.now) × (h_dot.exit.now ≡ h_dot.entry.now) }
 {
-    tell_verdict(stored::write(epoch_year, g, h, g_dot, h_dot, stored), entry)
+    let set = asks::set(epoch_year, g, h, g_dot, h_dot);
+    tell_verdict(stored::write(set, stored), entry)
 }
 
 // The same for lists of 90 entries or of 104.
@@ -88,55 +88,30 @@ pub extern "C" fn njerumoy_write_stored_either(
         (result ≡ verdict_number w.found) × (stored.new ≡ w.bytes) × (entry.new ≡ verdict_entry entry.old w.found) }
     ensures kept { (g.exit.now ≡ g.entry.now) × (h.exit.now ≡ h.entry.now) × (g_dot.exit.now ≡ g_dot.entry.now) × (h_dot.exit.now ≡ h_dot.entry.now) }
 {
-    tell_verdict(
-        stored::write_either(epoch_year, g, h, g_dot, h_dot, stored),
-        entry,
-    )
+    let set = asks::set(epoch_year, g, h, g_dot, h_dot);
+    tell_verdict(stored::write_either(set, stored), entry)
 }
 
 // Whether the set was written, and what a refusal of the lists carries.
 fn tell_verdict(found: Verdict, entry: &mut [usize; 2]) -> u32
     ensures { (result ≡ verdict_number found) × (entry.new ≡ verdict_entry entry.old found) }
 {
-    match found {
-        Verdict::Accepted => 0,
-        Verdict::Refused(k) => {
-            note_entry(k, entry);
-            number(k)
-        }
-    }
+    note_entry(found, entry);
+    number(found)
 }
 
 // What the reader refuses, then what Field says of the set. The lists are this function's own, so the
 // reader never refuses their lengths.
-fn field_of(
-    stored: &[u8],
-    height: f32,
-    latitude: Latitude,
-    longitude: Longitude,
-    day: Day,
-) -> FieldAnswer
-    ensures { field.said result ≡ stored_field stored.now height latitude.sin latitude.cos longitude.sin longitude.cos day.year day.day_of_year }
+fn field_of(stored: &[u8], place: Place, day: Day) -> Result<GeomagneticField, Refusal>
+    ensures { said result ≡ stored_field stored.now place.height place.latitude.sin place.latitude.cos place.longitude.sin place.longitude.cos day.year day.day_of_year }
 {
     let mut g = [0.0f32; N_COEFF];
     let mut h = [0.0f32; N_COEFF];
     let mut g_dot = [0.0f32; N_COEFF];
     let mut h_dot = [0.0f32; N_COEFF];
-    match stored::read(stored, &mut g, &mut h, &mut g_dot, &mut h_dot) {
-        ReadAnswer::Refused(k) => FieldAnswer::Refused(k),
-        ReadAnswer::Epoch(epoch_year) => field::field(
-            height, latitude, longitude, day, epoch_year, &g, &h, &g_dot, &h_dot,
-        ),
-    }
-}
-
-// The place in the bytes, where the reader refused them.
-pub fn note_where_read(answer: FieldAnswer, place: &mut usize)
-    ensures { place.new ≡ where_place place.old (field.said answer) }
-{
-    if let FieldAnswer::Refused(k) = answer {
-        note_where(k, place);
-    }
+    let epoch_year = stored::read(stored, &mut g, &mut h, &mut g_dot, &mut h_dot)?;
+    let set = asks::set(epoch_year, &g, &h, &g_dot, &h_dot);
+    field::field(place, day, set)
 }
 
 #[unsafe(no_mangle)]
@@ -160,16 +135,8 @@ pub extern "C" fn njerumoy_field_stored(
         × (entry.new ≡ entry_place entry.old p) × (years.new ≡ years_place years.old p) × (place.new ≡ where_place place.old p) }
     ensures kept { stored.exit.now ≡ stored.entry.now }
 {
-    let latitude = Latitude {
-        sin: sin_phi,
-        cos: cos_phi,
-    };
-    let longitude = Longitude {
-        sin: sin_lambda,
-        cos: cos_lambda,
-    };
-    let day = Day { year, day_of_year };
-    let answer = field_of(stored, height, latitude, longitude, day);
-    note_where_read(answer, place);
+    let there = asks::place(height, sin_phi, cos_phi, sin_lambda, cos_lambda);
+    let answer = field_of(stored, there, Day { year, day_of_year });
+    note_where(answer, place);
     tell_field(answer, xyz, errors, entry, years)
 }

@@ -3,9 +3,16 @@ ghost use Rattle.std.specs.Prelude.{◌≡◌};
 ghost use Rattle.synthesis.specs.Sum.{lent, sum_says};
 ghost use Rattle.ffi.specs.Told.{number_of, result_place, entry_place, sum_floats};
 
-use crate::refuse::note_entry;
-use refusals::number;
-use synthesis::{Colatitude, Longitude, SumAnswer};
+use crate::tell::{note_entry, tell};
+use lists::Lists;
+use synthesis::{Colatitude, Longitude, Xyz};
+
+// X', Y' and Z'.
+fn sum_floats(v: Xyz) -> [f32; 3]
+    ensures { result ≡ sum_floats v }
+{
+    [v.x, v.y, v.z]
+}
 
 #[unsafe(no_mangle)]
 pub extern "C" fn njerumoy_sum(
@@ -34,14 +41,8 @@ pub extern "C" fn njerumoy_sum(
         sin: sin_lambda,
         cos: cos_lambda,
     };
-    match synthesis::sum(colatitude, longitude, ratio, offset, g, h, g_dot, h_dot) {
-        SumAnswer::Sum(v) => {
-            *xyz = [v.x, v.y, v.z];
-            0
-        }
-        SumAnswer::Refused(k) => {
-            note_entry(k, entry);
-            number(k)
-        }
-    }
+    let lists = Lists { g, h, g_dot, h_dot };
+    let answer = synthesis::sum(colatitude, longitude, ratio, offset, lists);
+    note_entry(answer, entry);
+    tell(answer.map(sum_floats), xyz)
 }

@@ -4,32 +4,20 @@ ghost use Rattle.field.specs.Field.{asked};
 ghost use Rattle.igrf.specs.Igrf.{RateClose, early, profile};
 ghost use Rattle.rates.specs.declared.YearlyRates.{YearlyRates};
 ghost use Rattle.rates.specs.Profile.{igrf_rates_says};
-ghost use Rattle.rates.specs.Rates.{AllFinite, rates_says, said};
+ghost use Rattle.rates.specs.Rates.{AllFinite, rates_says};
 ghost use Rattle.ffi.specs.Told.{number_of, result_place, entry_place, years_place, rate_floats};
 
-use crate::refuse::tell_refusal;
-use field::Latitude;
-use rates::RatesAnswer;
+use crate::asks;
+use crate::tell::tell_dated;
+use lists::SecondSet;
+use rates::YearlyRates;
 use refusals::Day;
-use synthesis::Longitude;
 
-// The seven rates, and what a refusal of Field or of the profile carries.
-fn tell_rates(
-    answer: RatesAnswer,
-    rates: &mut [f32; 7],
-    entry: &mut [usize; 2],
-    years: &mut [i32; 2],
-) -> u32
-    ensures { (result ≡ number_of (said answer)) × (rates.new ≡ result_place rate_floats rates.old (said answer))
-        × (entry.new ≡ entry_place entry.old (said answer)) × (years.new ≡ years_place years.old (said answer)) }
+// The seven rates, in the record's order.
+fn rate_floats(v: YearlyRates) -> [f32; 7]
+    ensures { result ≡ rate_floats v }
 {
-    match answer {
-        RatesAnswer::Rates(v) => {
-            *rates = [v.x, v.y, v.z, v.declination, v.inclination, v.h, v.f];
-            0
-        }
-        RatesAnswer::Refused(k) => tell_refusal(k, entry, years),
-    }
+    [v.x, v.y, v.z, v.declination, v.inclination, v.h, v.f]
 }
 
 #[unsafe(no_mangle)]
@@ -55,19 +43,10 @@ pub extern "C" fn njerumoy_rates(
         × (entry.new ≡ entry_place entry.old p) × (years.new ≡ years_place years.old p) }
     ensures kept { (g.exit.now ≡ g.entry.now) × (h.exit.now ≡ h.entry.now) × (g_dot.exit.now ≡ g_dot.entry.now) × (h_dot.exit.now ≡ h_dot.entry.now) }
 {
-    let latitude = Latitude {
-        sin: sin_phi,
-        cos: cos_phi,
-    };
-    let longitude = Longitude {
-        sin: sin_lambda,
-        cos: cos_lambda,
-    };
-    let day = Day { year, day_of_year };
-    let answer = rates::rates(
-        height, latitude, longitude, day, epoch_year, g, h, g_dot, h_dot,
-    );
-    tell_rates(answer, rates, entry, years)
+    let place = asks::place(height, sin_phi, cos_phi, sin_lambda, cos_lambda);
+    let set = asks::set(epoch_year, g, h, g_dot, h_dot);
+    let answer = rates::rates(place, Day { year, day_of_year }, set);
+    tell_dated(answer.map(rate_floats), rates, entry, years)
 }
 
 // In the IGRF profile. `distance` is demand 3 of the rates of X, Y and Z that are written where 0 is
@@ -100,28 +79,13 @@ pub extern "C" fn njerumoy_igrf_rates(
         × (RateClose (profile (asked height sin_phi cos_phi sin_lambda cos_lambda epoch_year g.now h.now g_dot.now h_dot.now) second_epoch_year second_g.now second_h.now) (early year) v.x v.y v.z × AllFinite v) }
     ensures kept { (g.exit.now ≡ g.entry.now) × (h.exit.now ≡ h.entry.now) × (g_dot.exit.now ≡ g_dot.entry.now) × (h_dot.exit.now ≡ h_dot.entry.now) × (second_g.exit.now ≡ second_g.entry.now) × (second_h.exit.now ≡ second_h.entry.now) }
 {
-    let latitude = Latitude {
-        sin: sin_phi,
-        cos: cos_phi,
+    let place = asks::place(height, sin_phi, cos_phi, sin_lambda, cos_lambda);
+    let first = asks::set(epoch_year, g, h, g_dot, h_dot);
+    let second = SecondSet {
+        epoch_year: second_epoch_year,
+        g: second_g,
+        h: second_h,
     };
-    let longitude = Longitude {
-        sin: sin_lambda,
-        cos: cos_lambda,
-    };
-    let day = Day { year, day_of_year };
-    let answer = rates::igrf_rates(
-        height,
-        latitude,
-        longitude,
-        day,
-        epoch_year,
-        g,
-        h,
-        g_dot,
-        h_dot,
-        second_epoch_year,
-        second_g,
-        second_h,
-    );
-    tell_rates(answer, rates, entry, years)
+    let answer = rates::igrf_rates(place, Day { year, day_of_year }, first, second);
+    tell_dated(answer.map(rate_floats), rates, entry, years)
 }

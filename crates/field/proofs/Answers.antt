@@ -1,4 +1,6 @@
 -- The ways to an answer of Field, and what an answer says of what is asked.
+use Rattle.refusals.specs.Paper.{Paper, Verdict, accepted, answered, refused, paper, unless, after, told, check, said}
+use Rattle.std.specs.Prelude.{Ok, Err, IfOk, Result}
 use mathlib.Core.Path.{◌≡◌, refl, sym, ap, ◌∙◌, subst}
 use mathlib.Core.Bool.{Bool, true, false, ◌||◌}
 use Prim.Native.Nat.{ℕ}
@@ -10,9 +12,8 @@ use lib.Ieee.{Float, le}
 use mir.Syntax.{w32}
 use mir.Val.{SFits, of_z, to_z}
 use mir.ValLaws.{to_z-of_z}
-use Rattle.refusals.specs.Paper.{Paper, answered, refused, paper, unless, after, told}
-use Rattle.refusals.proofs.Laws.{passed, paper_one, no_answer, answered_one, told_answered, told_carry}
-use Rattle.refusals.specs.declared.Verdict.{Verdict}
+use Rattle.refusals.proofs.Laws.{passed, answered_one, told_answered, told_carry, said_one}
+use Rattle.refusals.specs.declared.Day.{Day}
 use Rattle.refusals.specs.declared.Refusal.{Refusal}
 use Rattle.refusals.specs.declared.Refusal.TheVariants.{Latitude, Longitude, DayOfYear, OtherEpoch}
 use Rattle.models.specs.declared.epochs.EpochOffset.{EpochOffset}
@@ -20,7 +21,7 @@ use Rattle.models.specs.declared.errors.WmmErrorModel.{WmmErrorModel}
 use Rattle.models.specs.Epochs.{unknown_epoch, wrong_epoch, day_exists, epoch_year_of, same_year, epoch_says, epoch_offset, known_epoch}
 use Rattle.models.specs.Records.{listed_errors}
 use Rattle.models.specs.Errors.{built_in, errors2025, error_says}
-use Rattle.models.proofs.Years.{same_year_lem, year_same, bits_same}
+use Rattle.models.proofs.Years.{other_bits, same_bits, same_year_lem, year_same}
 use Rattle.models.proofs.BuiltIn.{known_errors}
 use Rattle.geocentric.specs.declared.Geocentric.{Geocentric}
 use Rattle.geocentric.specs.Geo.{beyond_pole, geocentric_of, ratio_to, ratio_of, height_ok}
@@ -28,36 +29,37 @@ use Rattle.synthesis.specs.declared.Xyz.{Xyz}
 use Rattle.lists.specs.Lists.{lists_verdict}
 use Rattle.synthesis.specs.Sum.{Lent, lent, sum_says, value_of}
 use Rattle.strengths.specs.declared.GeomagneticField.{GeomagneticField}
-use Rattle.field.specs.declared.FieldAnswer.{FieldAnswer}
-use Rattle.field.specs.declared.FieldAnswer.TheVariants as Answer
-use Rattle.field.specs.Field.{said, Asked, FieldAccepted, FieldClose, components_says, dated_says, field_x, field_y, field_z, field_says, field_with, handed, listed_field, outside_height, place_verdict, record_of, record_says, shown_says, strengths_of}
+use Rattle.field.specs.Field.{Asked, asked_of, epoch_verdict, FieldAccepted, FieldClose, components_says, dated_says, field_x, field_y, field_z, field_says, field_with, handed, listed_field, outside_height, place_verdict, record_of, record_says, shown_says, strengths_of}
 use Rattle.lists.proofs.Checked.{Listed, listed}
 use Rattle.field.proofs.Laws.{accepted_at, close, sum_says_lem}
 use Rattle.exact.specs.Tests.{circle}
+use Rattle.lists.specs.declared.CoefficientSet.{CoefficientSet}
+use Rattle.field.specs.declared.place.Place.{Place}
+use Rattle.field.specs.Dated.{xyz_by}
 use Rattle.field.specs.Turn.{turned}
 
 -- ---- the place
 module _ (h s c sl cl : Float) where
-  pub bad_height : height_ok h ≡ false → Verdict.Refused outside_height ≡ place_verdict h s c sl cl
+  pub bad_height : height_ok h ≡ false → Err outside_height ≡ place_verdict h s c sl cl
   unfolding place_verdict
   bad_height e = rw e
 
   module _ (e : height_ok h ≡ true) where
-    pub bad_latitude : circle s c ≡ false → Verdict.Refused Latitude ≡ place_verdict h s c sl cl
+    pub bad_latitude : circle s c ≡ false → Err Latitude ≡ place_verdict h s c sl cl
     unfolding place_verdict
     bad_latitude f = rw (e, f)
 
     module _ (f : circle s c ≡ true) where
-      pub behind : le beyond_pole c ≡ false → Verdict.Refused Latitude ≡ place_verdict h s c sl cl
+      pub behind : le beyond_pole c ≡ false → Err Latitude ≡ place_verdict h s c sl cl
       unfolding place_verdict
       behind g = rw (e, f, g)
 
       module _ (g : le beyond_pole c ≡ true) where
-        pub bad_longitude : circle sl cl ≡ false → Verdict.Refused Longitude ≡ place_verdict h s c sl cl
+        pub bad_longitude : circle sl cl ≡ false → Err Longitude ≡ place_verdict h s c sl cl
         unfolding place_verdict
         bad_longitude i = rw (e, f, g, i)
 
-        pub good_place : circle sl cl ≡ true → Verdict.Accepted ≡ place_verdict h s c sl cl
+        pub good_place : circle sl cl ≡ true → accepted ≡ place_verdict h s c sl cl
         unfolding place_verdict
         good_place i = rw (e, f, g, i)
 
@@ -65,15 +67,11 @@ module _ (h s c sl cl : Float) where
 module _ (a b : ℤ) (v : Xyz) (fa : SFits w32 a) (fb : SFits w32 b) where
   pub other_epoch : (of_z w32 a ≡ of_z w32 b → ⊥) → paper (OtherEpoch b a) ≡ shown_says a b v
   unfolding shown_says
-  other_epoch n = go (same_year a b) refl
-    where
-      go : (t : Bool) → same_year a b ≡ t → paper (OtherEpoch b a) ≡ unless (same_year a b) (paper (OtherEpoch b a)) (answered v)
-      go true h = absurd (n (ap (of_z w32) (same_year_lem a b h)))
-      go false h = rw h
+  other_epoch n = rw (other_bits a b fa fb (λ e. n (sym e)))
 
   pub own_epoch : of_z w32 a ≡ of_z w32 b → answered v ≡ shown_says a b v
   unfolding shown_says
-  own_epoch h = let i : same_year a b ≡ true = rw (bits_same a b fa fb h) (year_same b) in rw i
+  own_epoch h = rw (same_bits a b fa fb (sym h))
 
 -- a year is its own
 pub own_year : (a : ℤ) (v : Xyz) → answered v ≡ shown_says a a v
@@ -131,16 +129,39 @@ module _ (a : Asked) (e : EpochOffset) where
         let shows = shown_says a.set_epoch e.epoch_year in
         er ∙ ap shows es ∙ ap (λ (t : Verdict). told t (shows (strengths_of a e))) (sym l.0) ∙ after_set
 
+unless_told : {A : Type 0} (b : Bool) (k : Refusal) (p : Paper A) → unless b (paper k) p ≡ told (check b k accepted) p
+unless_told true k p = refl
+unless_told false k p = refl
+
+told_after : (u : Verdict) (v : Xyz) (turn : Xyz → Xyz) (f : Xyz → Paper Xyz) → told u (f (turn v)) ≡ after (after (told u (answered v)) (λ w. answered (turn w))) f
+told_after (Ok _) v turn f = refl
+told_after (Err k) v turn f = refl
+
+-- for an accepted place and day: 5 of the set, what Sum says of it in geodetic axes, and 8 before its answer
+pub dated_by : (p : Place) (s : CoefficientSet) (e : EpochOffset) → FieldAccepted (asked_of p s) e
+    → dated_says (asked_of p s) e ≡ told (check (known_epoch s.epoch_year) unknown_epoch accepted) (after (xyz_by sum_says p e.offset s.lists) (λ v. told (epoch_verdict e.epoch_year s.epoch_year) (answered v)))
+unfolding dated_says shown_says value_of turned field_x field_y field_z handed geocentric_of ratio_of
+dated_by p s e w =
+    let a = asked_of p s in
+    let turn : Xyz → Xyz = λ v. turned v (geocentric_of p.height p.latitude.sin p.latitude.cos) p.latitude.sin p.latitude.cos in
+    let shows : Xyz → Paper Xyz = λ v. told (epoch_verdict e.epoch_year s.epoch_year) (answered v) in
+    let lists = lists_verdict a.g a.h a.g_dot a.h_dot in
+    unless_told (known_epoch s.epoch_year) unknown_epoch _
+    ∙ ap (λ (r : Paper Xyz). told (check (known_epoch s.epoch_year) unknown_epoch accepted) r)
+    (ap (λ (r : Paper Xyz). told lists r) (unless_told (same_year s.epoch_year e.epoch_year) (OtherEpoch e.epoch_year s.epoch_year) (answered (strengths_of a e)))
+    ∙ told_after lists (value_of (handed a e)) turn shows
+    ∙ ap (λ (r : Paper Xyz). after (after r (λ v. answered (turn v))) shows) (sym (sum_says_lem a e w)))
+
 -- ---- the components
 abbrev pub of_place : Asked → Verdict
 of_place a = place_verdict a.height a.sin_phi a.cos_phi a.sin_lambda a.cos_lambda
 
 module _ (a : Asked) (year day : ℤ) where
-  pub place_refused : (k : Refusal) → of_place a ≡ Verdict.Refused k → paper k ≡ components_says a year day
+  pub place_refused : (k : Refusal) → of_place a ≡ Err k → paper k ≡ components_says a year day
   unfolding components_says
   place_refused k e = rw e
 
-  module _ (f : of_place a ≡ Verdict.Accepted) where
+  module _ (f : of_place a ≡ accepted) where
     pub day_refused : (k : Refusal) → paper k ≡ epoch_says year day → paper k ≡ components_says a year day
     unfolding components_says
     day_refused k h = rw f (ap (λ (q : Paper EpochOffset). after q (dated_says a)) h)
@@ -148,6 +169,11 @@ module _ (a : Asked) (year day : ℤ) where
     pub day_answered : (e : EpochOffset) → answered e ≡ epoch_says year day → (r : Paper Xyz) → r ≡ dated_says a e → r ≡ components_says a year day
     unfolding components_says
     day_answered e h r er = rw f (er ∙ ap (λ (q : Paper EpochOffset). after q (dated_says a)) h)
+
+-- a place that passed, and a day that Epoch answered for
+pub accepted_of : (p : Place) (s : CoefficientSet) (d : Day) (e : EpochOffset) (r : Result EpochOffset Refusal) → place_verdict p.height p.latitude.sin p.latitude.cos p.longitude.sin p.longitude.cos ≡ accepted
+    → said r ≡ epoch_says d.year d.day_of_year → r ≡ Ok e → FieldAccepted (asked_of p s) e
+accepted_of p s d e r f h i = accepted_at (asked_of p s) d.year d.day_of_year f e (sym h ∙ ap said i)
 
 -- ---- what an answer says
 pub after_answered : {A B : Type 0} (p : Paper A) (f : A → Paper B) (b : B) → after p f ≡ answered b → (x : A) × ((p ≡ answered x) × (f x ≡ answered b))
@@ -225,22 +251,26 @@ built_in_field a year day = figures_last a year day (error_says (epoch_year_of y
 
 -- ---- the contract's other clause, and that there is one answer
 -- demand 3: an answer lies close to the exact field, whatever the figures
-pub answer_close : (figures : Paper WmmErrorModel) (a : Asked) (year day : ℤ) (r : FieldAnswer) → said r ≡ field_with figures a year day → (v : GeomagneticField) → r ≡ Answer.Field v → FieldClose a (epoch_offset year day) v
+pub answer_close : (figures : Paper WmmErrorModel) (a : Asked) (year day : ℤ) (r : Result GeomagneticField Refusal) → said r ≡ field_with figures a year day → (v : GeomagneticField) → r ≡ Ok v → FieldClose a (epoch_offset year day) v
 answer_close figures a year day r h v e =
     let f = found figures a year day v (sym h ∙ ap said e) in
     subst (λ (u : GeomagneticField). FieldClose a (epoch_offset year day) u) f.is (close a (epoch_offset year day) f.accepted f.lists f.error)
 
 -- so for the call without a list
-pub field_close : (a : Asked) (year day : ℤ) (r : FieldAnswer) → said r ≡ field_says a year day → (v : GeomagneticField) → r ≡ Answer.Field v → FieldClose a (epoch_offset year day) v
+pub field_close : (a : Asked) (year day : ℤ) (r : Result GeomagneticField Refusal) → said r ≡ field_says a year day → (v : GeomagneticField) → r ≡ Ok v → FieldClose a (epoch_offset year day) v
 unfolding field_says
 field_close a year day = answer_close (error_says (epoch_year_of year)) a year day
 
+-- the same, of the result
+pub close_if : (figures : Paper WmmErrorModel) (a : Asked) (year day : ℤ) (r : Result GeomagneticField Refusal) → said r ≡ field_with figures a year day → IfOk r (λ v. FieldClose a (epoch_offset year day) v)
+close_if figures a year day (Ok v) h = answer_close figures a year day (Ok v) h v refl
+close_if figures a year day (Err k) h = tt
+
+-- Field by its components, with the figures of the set's year
+pub field_by : (f : ℤ → Paper WmmErrorModel) (a : Asked) (year day : ℤ) → field_with (f (epoch_year_of year)) a year day ≡ after (components_says a year day) (λ v. record_says (answered v) (f a.set_epoch))
+unfolding field_with
+field_by f a year day = sym (by_8 f a year day)
+
 -- any two answers that a contract allows are equal
-pub field_answer_one : (p : Paper GeomagneticField) (r s : FieldAnswer) → said r ≡ p → said s ≡ p → r ≡ s
-field_answer_one p r s e f = go r s (e ∙ sym f)
-  where
-    go : (r s : FieldAnswer) → said r ≡ said s → r ≡ s
-    go (Answer.Field v) (Answer.Field w) h = ap Answer.Field (answered_one v w h)
-    go (Answer.Field v) (Answer.Refused k) h = absurd (no_answer k v (sym h))
-    go (Answer.Refused k) (Answer.Field v) h = absurd (no_answer k v h)
-    go (Answer.Refused k) (Answer.Refused l) h = ap Answer.Refused (paper_one k l h)
+pub field_answer_one : (p : Paper GeomagneticField) (r s : Result GeomagneticField Refusal) → said r ≡ p → said s ≡ p → r ≡ s
+field_answer_one p r s e f = said_one r s (e ∙ sym f)

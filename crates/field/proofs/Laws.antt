@@ -1,12 +1,11 @@
 -- Field hands Sum only what Sum accepts, and its X, Y and Z keep the distance of demand 3, for every accepted input.
+use Rattle.refusals.specs.Paper.{accepted, answered, told}
 use mathlib.Core.Path.{◌≡◌}
 use mathlib.Core.Bool.{true, not}
 use lib.Dec.{T, lit≤}
 use lib.IntN.{ℤ}
 use lib.Ieee.{Float}
 use lib.Ieee.Positive.{positive}
-use Rattle.refusals.specs.Paper.{answered, told}
-use Rattle.refusals.specs.declared.Verdict.TheVariants as Verdict
 use Rattle.refusals.proofs.Laws.{check_accepted}
 use Rattle.refusals.specs.declared.Refusal.TheVariants.{Latitude, Longitude}
 use Rattle.models.specs.declared.epochs.EpochOffset.{EpochOffset}
@@ -144,7 +143,7 @@ module _ (a : Asked) (year day : ℤ) where
       record { height = holds h; latitude = holds l; longitude = holds c; offset = never_11 t; known = known_day year day e d }
 
   -- a place that passed, and a day that Epoch answered for
-  pub accepted_at : place_verdict a.height a.sin_phi a.cos_phi a.sin_lambda a.cos_lambda ≡ Verdict.Accepted → (e : EpochOffset) → epoch_says year day ≡ answered e → FieldAccepted a e
+  pub accepted_at : place_verdict a.height a.sin_phi a.cos_phi a.sin_lambda a.cos_lambda ≡ accepted → (e : EpochOffset) → epoch_says year day ≡ answered e → FieldAccepted a e
   unfolding place_verdict
   accepted_at f e d =
       let p1 = check_accepted (height_ok a.height) outside_height _ f in

@@ -3,6 +3,7 @@ pub mod Offset
 pub mod TurnNear
 pub mod TurnRelated
 pub mod Laws
+pub mod Uncapped
 pub mod There
 pub mod Rated
 pub mod Reach

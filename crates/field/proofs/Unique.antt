@@ -1,5 +1,6 @@
 -- Every public contract leaves one result: each law is over what the kit makes of the function's `ensures`, a `Post` (`OneResult`), or its `clauses` (`OneAnswer`).
-use mathlib.Core.Path.{refl}
+use mathlib.Core.Path.{refl, sym, ◌∙◌}
+use Rattle.refusals.proofs.Laws.{said_one}
 use Rattle.field.proofs.Answers.{field_answer_one}
 use Rattle.refusals.specs.OneResult.{OneResult, OneAnswer}
 use Rattle.refusals.proofs.Clauses.{three_say_first}
@@ -7,7 +8,9 @@ use Rattle.field.proofs.field as field_fn
 use Rattle.field.proofs.field_with as field_with_fn
 use Rattle.field.specs.contracts.listed.field_listed as field_listed_fn
 use Rattle.field.proofs.axes.turn as turn_fn
-use Rattle.field.proofs.place.check_place as check_place_fn
+use Rattle.field.proofs.check_epoch as check_epoch_fn
+use Rattle.field.proofs.dated.xyz_uncapped as xyz_uncapped_fn
+use Rattle.field.proofs.place.Place.check as check_place_fn
 
 pub field : OneResult field_fn.Kinds.ps field_fn.Kinds.r field_fn.Reads.Post
 field κs a x y u v p q = (field_answer_one _ x y p.0 q.0, refl)
@@ -23,3 +26,9 @@ turn κs a x y u v p q = (cc, refl)
 
 pub check_place : OneResult check_place_fn.Kinds.ps check_place_fn.Kinds.r check_place_fn.Reads.Post
 check_place κs a x y u v p q = (cc, refl)
+
+pub check_epoch : OneResult check_epoch_fn.Kinds.ps check_epoch_fn.Kinds.r check_epoch_fn.Reads.Post
+check_epoch κs a x y u v p q = (cc, refl)
+
+pub xyz_uncapped : OneResult xyz_uncapped_fn.Kinds.ps xyz_uncapped_fn.Kinds.r xyz_uncapped_fn.Reads.Post
+xyz_uncapped κs a x y u v p q = (said_one x y (p.0 ∙ sym q.0), refl)

@@ -5,8 +5,7 @@ use Rattle.std.specs.Float.{binary32}
 use Rattle.std.specs.Float.Ieee.{of_bits, neg}
 use Rattle.exact.specs.Tests.{circle}
 use Rattle.exact.specs.Within.{Within}
-use Rattle.refusals.specs.Paper.{Paper, answered, paper, unless, after, told, check}
-use Rattle.refusals.specs.declared.Verdict.{Verdict}
+use Rattle.refusals.specs.Paper.{Paper, Verdict, accepted, answered, paper, unless, after, told, check}
 use Rattle.refusals.specs.declared.Refusal.{Refusal}
 use Rattle.refusals.specs.declared.Refusal.TheVariants.{Height, Latitude, Longitude, OtherEpoch}
 use Rattle.models.specs.declared.epochs.EpochOffset.{EpochOffset}
@@ -17,14 +16,12 @@ use Rattle.models.specs.Records.{listed_errors}
 use Rattle.models.specs.Errors.{error_says}
 use Rattle.geocentric.specs.Geo.{cos_of, sin_of, ratio_of, height_ok, latitude_ok}
 use Rattle.sums.specs.Arithmetic.{Arithmetic, rounded, sizes, unrounded}
+use Rattle.lists.specs.declared.CoefficientSet.{CoefficientSet}
 use Rattle.lists.specs.Lists.{lists_verdict}
 use Rattle.synthesis.specs.Sum.{Lent, offset_ok, sum_x, sum_y, sum_z}
 use Rattle.synthesis.specs.declared.Xyz.{Xyz}
 use Rattle.strengths.specs.declared.GeomagneticField.{GeomagneticField}
-use Rattle.field.specs.declared.ComponentsAnswer.{ComponentsAnswer}
-use Rattle.field.specs.declared.ComponentsAnswer.TheVariants as Components
-use Rattle.field.specs.declared.FieldAnswer.{FieldAnswer}
-use Rattle.field.specs.declared.FieldAnswer.TheVariants as Answer
+use Rattle.field.specs.declared.place.Place.{Place}
 use Rattle.field.specs.Turn.{turn_x, turn_z}
 
 -- what is asked, beside the day: height in metres, the pairs of latitude and longitude, and the lent set
@@ -70,6 +67,10 @@ module _ {A : Type 0} (o : Arithmetic A) (a : Asked) (e : EpochOffset) where
 abbrev pub asked : Float → Float → Float → Float → Float → ℤ → List Float → List Float → List Float → List Float → Asked
 asked height sp cp sl cl year g h gd hd = record { height = height; sin_phi = sp; cos_phi = cp; sin_lambda = sl; cos_lambda = cl; set_epoch = year; g = g; h = h; g_dot = gd; h_dot = hd }
 
+-- the same of a place and a lent set
+abbrev pub asked_of : Place → CoefficientSet → Asked
+asked_of p s = asked p.height p.latitude.sin p.latitude.cos p.longitude.sin p.longitude.cos s.epoch_year s.lists.g.now s.lists.h.now s.lists.g_dot.now s.lists.h_dot.now
+
 -- the three components, each operation rounded once
 abbrev pub strengths_of : Asked → EpochOffset → Xyz
 strengths_of a e = record { x = field_x rounded a e; y = field_y rounded a e; z = field_z rounded a e }
@@ -87,9 +88,13 @@ unfoldable pub place_verdict : (height sin_phi cos_phi sin_lambda cos_lambda : F
 place_verdict height sin_phi cos_phi sin_lambda cos_lambda =
     check (height_ok height) outside_height
     (check (latitude_ok sin_phi cos_phi) Latitude
-    (check (circle sin_lambda cos_lambda) Longitude Verdict.Accepted))
+    (check (circle sin_lambda cos_lambda) Longitude accepted))
 
--- refusal 8, which carries both years, or the three components
+-- refusal 8, which carries both years
+abbrev pub epoch_verdict : (of_day of_set : ℤ) → Verdict
+epoch_verdict of_day of_set = check (same_year of_set of_day) (OtherEpoch of_day of_set) accepted
+
+-- the same, or the three components
 unfoldable pub shown_says : (set_epoch day-epoch : ℤ) → Xyz → Paper Xyz
 shown_says set_epoch day-epoch v = unless (same_year set_epoch day-epoch) (paper (OtherEpoch day-epoch set_epoch)) (answered v)
 
@@ -119,16 +124,6 @@ field_says a year day = field_with (error_says (epoch_year_of year)) a year day
 -- Field with a lent list: after 8 refusal 15 where it has no record of the day's epoch year, 12 where that has unusable figures
 unfoldable pub listed_field : List ErrorRecord → Asked → (year day : ℤ) → Paper GeomagneticField
 listed_field rs a year day = field_with (listed_errors rs (epoch_year_of year)) a year day
-
--- the paper's number and values of each case of the components' answer
-abbrev pub components_said : ComponentsAnswer → Paper Xyz
-components_said (Components.Components v) = answered v
-components_said (Components.Refused k) = paper k
-
--- the paper's number and values of each case of the answer
-abbrev pub said : FieldAnswer → Paper GeomagneticField
-said (Answer.Field v) = answered v
-said (Answer.Refused k) = paper k
 
 -- demand 3: each component within the promised distance of the exact field, with the sizes as its majorant
 pub record FieldClose (a : Asked) (e : EpochOffset) (v : GeomagneticField) : Type 0 where

@@ -1,5 +1,6 @@
--- Definitions: Turn, Field, There, Rated.
+-- Definitions: Turn, Field, Dated, There, Rated.
 pub mod Turn
 pub mod Field
+pub mod Dated
 pub mod There
 pub mod Rated

@@ -1,25 +1,14 @@
 -- The two conversions of bits: each undoes the other, but for the NaN's patterns, of which one is written. Assumes nothing.
 use mathlib.Core.Path.{◌≡◌, refl, sym, subst, ◌∙◌}
-use mathlib.Core.Bool.{Bool, true, false, not, true≢false}
+use mathlib.Core.Bool.{Bool, true, not, true≢false}
 use Prim.Native.Nat.{ℕ, ◌%◌, ◌^◌, ◌<◌, ◌≤◌}
 use lib.Dec.{T}
-use borrow.Author.Tests.{lt-ltb, le-ltb}
-use lib.Ieee.{Float, nan, inf, fin, binary32, eq, ne, is_nan, nan_bits, fits, to_bits}
+use borrow.Author.Tests.{le-ltb}
+use lib.Ieee.{Float, nan, inf, fin, binary32, is_nan, nan_bits, fits, to_bits}
 use lib.Ieee.Bits.{is_true, nan_bits_is, nan_bits_above, of_bits-to_bits, to_bits-of_bits, of_bits-fits, to_bits-lt}
-use lib.Ieee.Compare.{differs_from_itself}
 use Rattle.float32.specs.Bits.{bits_of, float_of}
 
--- ---- the tests of the code
-pub same_no_nan : (x : Float) → eq x x ≡ true → T (not (is_nan x))
-unfolding eq is_nan
-same_no_nan nan h = true≢false (sym h)
-same_no_nan (inf s) h = tt
-same_no_nan (fin s m e) h = tt
-
-pub unlike_nan : (x : Float) → eq x x ≡ false → x ≡ nan
-unfolding ne
-unlike_nan x h = differs_from_itself x (subst (λ (b : Bool). T (not b)) (sym h) tt)
-
+-- a pattern up to the infinity's is no NaN's
 pub low_no_nan : (b : ℕ) → b % 0x8000_0000 ≤ 0x7f80_0000 → T (not (nan_bits binary32 b))
 low_no_nan b h = rw (nan_bits_above binary32 b, le-ltb 0x7f80_0000 (b % 0x8000_0000) h) tt
 
@@ -28,9 +17,6 @@ unfolding is_nan
 is_nan_lem nan h = refl
 is_nan_lem (inf s) h = absurd (true≢false (sym h))
 is_nan_lem (fin s m e) h = absurd (true≢false (sym h))
-
-pub high_nan : (b : ℕ) → 0x7f80_0000 < b % 0x8000_0000 → nan ≡ float_of b
-high_nan b h = is_nan_lem (float_of b) (sym (nan_bits_is binary32 b) ∙ nan_bits_above binary32 b ∙ lt-ltb 0x7f80_0000 (b % 0x8000_0000) h)
 
 -- ---- the laws
 -- a float that the format holds is read back from its pattern

@@ -1,7 +1,7 @@
 -- What a bit pattern of binary32 is worth, as a fraction. Assumes nothing.
 use mathlib.Core.Path.{◌≡◌, refl, sym, ap, ◌∙◌, subst}
 use Prim.Native.Nat.{ℕ, suc, ◌+◌, ◌-◌, ◌*◌, ◌/◌, ◌%◌, ◌^◌, ◌≤◌, ◌<◌}
-use native.Mathlib.Nat.{le_of_eq, le_of_mul-le-mul_right, mul-le-mul, pow-le-pow_right, pow-suc, mul-one, zero-add}
+use native.Mathlib.Nat.{le_of_eq, lt_of_lt_of_le, mod-eq_of_lt, le_of_mul-le-mul_right, mul-le-mul, pow-le-pow_right, pow-suc, mul-one, zero-add}
 use native.Mathlib.Omega.{arith}
 use mathlib.Core.Bool.{Bool, true, false, not}
 use lib.Dec.{ltb, lit≤, lit<}
@@ -33,6 +33,10 @@ shift_fits m k h l =
     let few : m ≤ 16777215 = omega arith in
     let b : m * 2 ^ k ≤ 16777215 * 2147483648 = mul-le-mul few a in
     omega arith
+
+-- so a u64 shifted by them keeps every digit
+pub shift_whole : (m k : ℕ) → m < 16777216 → k < 32 → m * 2 ^ k % 18446744073709551616 ≡ m * 2 ^ k
+shift_whole m k h l = mod-eq_of_lt (lt_of_lt_of_le (shift_fits m k h l) (lit≤ tt))
 
 -- ---- one value, two fractions
 pub same : (x : Float) (s : Bool) (a d b c : ℕ) → HasValue x s a d → HasValue x s b c → a * c ≡ b * d

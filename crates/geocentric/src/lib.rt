@@ -22,6 +22,7 @@ pub const WMM_A: f32 = f32::from_bits(0x4ac26f00);
 
 // The eccentricity squared by the source's formula. Nothing calls it: its contract says that the
 // two constants belong together.
+#[tactic(auto, using(crate::proofs::Flattening::eccentricity))]
 fn eccentricity_squared() -> f32
     ensures { result ≡ wgs84_e2 }
 {
@@ -36,6 +37,7 @@ pub struct Geocentric {
     pub sin_theta: f32,
 }
 
+// The place at a height in metres over the ellipsoid, and a geodetic latitude.
 pub fn geodetic_to_geocentric(height: f32, sin_phi: f32, cos_phi: f32) -> Geocentric
     ensures { result ≡ geocentric_of height sin_phi cos_phi }
 {
@@ -46,7 +48,7 @@ pub fn geodetic_to_geocentric(height: f32, sin_phi: f32, cos_phi: f32) -> Geocen
     let r_squared = p * p + z * z;
     let r = roots::sqrt_by_guess(r_squared, near_radius(r_squared));
     Geocentric {
-        r: r,
+        r,
         cos_theta: z / r,
         sin_theta: p / r,
     }

@@ -1,10 +1,10 @@
 -- X, Y and Z alone: the laws of proofs/Answers.antt, Laws.antt and Close.antt, which are of X, Y and Z as of their rates, read for what is said of the first. Assumes nothing.
+use Rattle.refusals.specs.Paper.{Verdict, accepted, Paper, answered, paper}
+use Rattle.std.specs.Prelude.{Err}
 use Rattle.std.proofs.Common.{◌≡◌, refl, ap, ◌∙◌, List, ℕ, Bool, true, false, ℤ, length, T, Float}
 use Rattle.exact.specs.Tests.{circle}
 use Rattle.exact.specs.Within.{Within}
 use Rattle.refusals.specs.declared.Refusal.{Refusal}
-use Rattle.refusals.specs.declared.Verdict.{Verdict}
-use Rattle.refusals.specs.Paper.{Paper, answered, paper}
 use Rattle.lists.specs.Lists.{Long}
 use Rattle.lists.proofs.OfProfile.{PairListed}
 use Rattle.models.specs.declared.epochs.EpochOffset.{EpochOffset}
@@ -35,13 +35,13 @@ unfolding chosen components_of
 day_shows_is a soon e = refl
 
 module _ (a : Profile) (soon : Bool) (e : EpochOffset) where
-  pub read_refused : (k : Refusal) → read_found a soon ≡ Verdict.Refused k → paper k ≡ day_shows a soon e
+  pub read_refused : (k : Refusal) → read_found a soon ≡ Err k → paper k ≡ day_shows a soon e
   read_refused k h = general.read_refused false a soon e k h ∙ day_shows_is a soon e
 
-  pub years_refused : read_found a soon ≡ Verdict.Accepted → (k : Refusal) → of_years a soon e ≡ Verdict.Refused k → paper k ≡ day_shows a soon e
+  pub years_refused : read_found a soon ≡ accepted → (k : Refusal) → of_years a soon e ≡ Err k → paper k ≡ day_shows a soon e
   years_refused l k h = general.years_refused false a soon e l k h ∙ day_shows_is a soon e
 
-  pub day_shown : read_found a soon ≡ Verdict.Accepted → of_years a soon e ≡ Verdict.Accepted → (p : Paper Xyz) → p ≡ answered (components_of a soon e) → p ≡ day_shows a soon e
+  pub day_shown : read_found a soon ≡ accepted → of_years a soon e ≡ accepted → (p : Paper Xyz) → p ≡ answered (components_of a soon e) → p ≡ day_shows a soon e
   unfolding chosen components_of
   day_shown l h p i = general.day_shown false a soon e l h p i ∙ day_shows_is a soon e
 
@@ -56,13 +56,13 @@ module _ (a : Profile) (soon : Bool) (e : EpochOffset) where
 
 -- ---- what is said
 module _ (a : Profile) (year day : ℤ) where
-  pub place_refused : (k : Refusal) → of_place a ≡ Verdict.Refused k → paper k ≡ igrf_says a year day
+  pub place_refused : (k : Refusal) → of_place a ≡ Err k → paper k ≡ igrf_says a year day
   place_refused k e = laws.place_refused false a year day k e
 
-  pub day_refused : of_place a ≡ Verdict.Accepted → (k : Refusal) → paper k ≡ igrf_day year day → paper k ≡ igrf_says a year day
+  pub day_refused : of_place a ≡ accepted → (k : Refusal) → paper k ≡ igrf_day year day → paper k ≡ igrf_says a year day
   day_refused p k e = laws.day_refused false a year day p k e
 
-  pub day_answered : of_place a ≡ Verdict.Accepted → (e : EpochOffset) → answered e ≡ igrf_day year day → (q : Paper Xyz) → q ≡ day_shows a (early year) e → q ≡ igrf_says a year day
+  pub day_answered : of_place a ≡ accepted → (e : EpochOffset) → answered e ≡ igrf_day year day → (q : Paper Xyz) → q ≡ day_shows a (early year) e → q ≡ igrf_says a year day
   unfolding chosen components_of
   day_answered p e h q i = laws.day_answered false a year day p e h q i
 

@@ -1,13 +1,13 @@
 -- The ways to an answer of the profile.
+use Rattle.refusals.specs.Paper.{Verdict, accepted, Paper, answered, paper}
+use Rattle.std.specs.Prelude.{Err}
 use mathlib.Core.Path.{◌≡◌, refl, sym, ap, ◌∙◌}
 use mathlib.Core.Bool.{Bool, true, false, cond}
 use lib.Dec.{T}
 use lib.Ieee.{Float}
 use lib.Ieee.Bits.{is_true}
 use Rattle.exact.specs.Tests.{circle}
-use Rattle.refusals.specs.Paper.{Paper, answered, paper}
 use Rattle.refusals.specs.declared.Refusal.{Refusal}
-use Rattle.refusals.specs.declared.Verdict.{Verdict}
 use Rattle.refusals.proofs.Laws.{answered_one, no_answer}
 use Rattle.lists.specs.Lists.{Long}
 use Rattle.lists.proofs.Checked.{long_pass}
@@ -70,18 +70,18 @@ abbrev pub of_years : Profile → Bool → EpochOffset → Verdict
 of_years a soon e = years_found soon e.epoch_year a.one.set_epoch a.second_epoch
 
 module _ (r : Bool) (a : Profile) (soon : Bool) (e : EpochOffset) where
-  pub read_refused : (k : Refusal) → read_found a soon ≡ Verdict.Refused k → paper k ≡ day_shows_by r a soon e
+  pub read_refused : (k : Refusal) → read_found a soon ≡ Err k → paper k ≡ day_shows_by r a soon e
   read_refused k h = rw (sym (lists_read a soon) ∙ h)
 
-  module _ (l : read_found a soon ≡ Verdict.Accepted) where
-    pub years_refused : (k : Refusal) → of_years a soon e ≡ Verdict.Refused k → paper k ≡ day_shows_by r a soon e
+  module _ (l : read_found a soon ≡ accepted) where
+    pub years_refused : (k : Refusal) → of_years a soon e ≡ Err k → paper k ≡ day_shows_by r a soon e
     years_refused k h = rw (sym (lists_read a soon) ∙ l, h)
 
-    pub day_shown : of_years a soon e ≡ Verdict.Accepted → (p : Paper Xyz) → p ≡ answered (found_by r (chosen a soon) e) → p ≡ day_shows_by r a soon e
+    pub day_shown : of_years a soon e ≡ accepted → (p : Paper Xyz) → p ≡ answered (found_by r (chosen a soon) e) → p ≡ day_shows_by r a soon e
     day_shown h p i = i ∙ rw (sym (lists_read a soon) ∙ l, h)
 
 -- the lists that the sums read are of one degree
-module _ (a : Profile) (soon : Bool) (l : read_found a soon ≡ Verdict.Accepted) where
+module _ (a : Profile) (soon : Bool) (l : read_found a soon ≡ accepted) where
   pub pair_long : soon ≡ true → Long a.one.g a.one.h a.second_g a.second_h
   pair_long s = (pair_listed _ _ _ _ (rw s at l)).long
 

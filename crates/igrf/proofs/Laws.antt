@@ -1,4 +1,6 @@
 -- The ways to an answer of the profile's entry, what an answer says of what is asked, and demand 3 for it.
+use Rattle.refusals.specs.Paper.{Paper, Verdict, accepted, after, answered, both, paper, refused, said, unless, told}
+use Rattle.std.specs.Prelude.{Ok, Err, Result}
 use mathlib.Core.Path.{◌≡◌, refl, sym, ap, subst, ◌∙◌}
 use mathlib.Core.Bool.{Bool, true, false}
 use native.Mathlib.Omega.{arith}
@@ -7,11 +9,9 @@ use lib.Dec.{T}
 use lib.IntN.{ℤ, pos, negsuc}
 use lib.Signed.{lt_z}
 use Rattle.exact.specs.Tests.{circle}
-use Rattle.refusals.specs.Paper.{Paper, after, answered, paper, refused, unless, told}
 use Rattle.refusals.specs.declared.Refusal.{Refusal}
 use Rattle.refusals.specs.declared.Refusal.TheVariants.{DayOfYear, Latitude, Longitude, OtherEpoch}
-use Rattle.refusals.specs.declared.Verdict.{Verdict}
-use Rattle.refusals.proofs.Laws.{answered_one, check_accepted, no_answer, no_refusal, paper_one, told_answered}
+use Rattle.refusals.proofs.Laws.{answered_one, check_accepted, no_answer, no_refusal, paper_one, said_one, told_answered}
 use Rattle.models.specs.declared.epochs.EpochOffset.{EpochOffset}
 use Rattle.models.specs.Epochs.{IGRF_FIRST, day_exists, day_from, days_from, epoch_offset, epoch_year_of, igrf_day, known_epoch, same_year, served_from, wrong_day}
 use Rattle.models.proofs.Years.{same_year_lem, years_served}
@@ -27,9 +27,7 @@ use Rattle.field.proofs.Rated.{rates_accepted, rates_listed}
 use Rattle.field.proofs.Laws.{close_x, close_y, close_z}
 use Rattle.field.proofs.Answers.{after_answered}
 use Rattle.field.proofs.Offset.{never_11}
-use Rattle.igrf.specs.declared.IgrfAnswer.{IgrfAnswer}
-use Rattle.igrf.specs.declared.IgrfAnswer.TheVariants as Answer
-use Rattle.igrf.specs.Igrf.{IgrfClose, Profile, RateClose, chosen, components_of, day_shows_by, early, found_by, igrf_by, igrf_says, lists_found, rate_says, said, years_found}
+use Rattle.igrf.specs.Igrf.{IgrfClose, Profile, RateClose, chosen, components_of, day_shows_by, early, found_by, igrf_by, igrf_says, lists_found, rate_says, accepted_says, years_found}
 use Rattle.igrf.proofs.Close.{early_close, early_rates_close}
 
 abbrev pub of_place : Profile → Verdict
@@ -44,10 +42,10 @@ by_is true a year day = refl
 
 -- ---- the ways
 module _ (r : Bool) (a : Profile) (year day : ℤ) where
-  pub place_refused : (k : Refusal) → of_place a ≡ Verdict.Refused k → paper k ≡ igrf_by r a year day
+  pub place_refused : (k : Refusal) → of_place a ≡ Err k → paper k ≡ igrf_by r a year day
   place_refused k e = rw (by_is r a year day, e)
 
-  module _ (p : of_place a ≡ Verdict.Accepted) where
+  module _ (p : of_place a ≡ accepted) where
     pub day_refused : (k : Refusal) → paper k ≡ igrf_day year day → paper k ≡ igrf_by r a year day
     day_refused k e = rw (by_is r a year day, p, sym e)
 
@@ -55,7 +53,7 @@ module _ (r : Bool) (a : Profile) (year day : ℤ) where
     day_answered e h q i = i ∙ rw (by_is r a year day, p, sym h)
 
 -- ---- what the place and the day say
-pub place_good : (a : Profile) → of_place a ≡ Verdict.Accepted → T (height_ok a.one.height) × T (latitude_ok a.one.sin_phi a.one.cos_phi) × T (circle a.one.sin_lambda a.one.cos_lambda)
+pub place_good : (a : Profile) → of_place a ≡ accepted → T (height_ok a.one.height) × T (latitude_ok a.one.sin_phi a.one.cos_phi) × T (circle a.one.sin_lambda a.one.cos_lambda)
 unfolding place_verdict
 place_good a f =
     let p1 = check_accepted (height_ok a.one.height) outside_height _ f in
@@ -70,14 +68,8 @@ day_good year day e h =
     (never_11 t, rw t.epoch_is (le-ltb t.ep 0 (omega arith)), rw t.epoch_is (le-ltb 2029 t.ep (omega (arith, t.since, t.latest))))
 
 -- ---- one answer
-pub igrf_answer_one : (p : Paper Xyz) (r s : IgrfAnswer) → said r ≡ p → said s ≡ p → r ≡ s
-igrf_answer_one p r s e f = go r s (e ∙ sym f)
-  where
-    go : (r s : IgrfAnswer) → said r ≡ said s → r ≡ s
-    go (Answer.Components v) (Answer.Components w) h = ap Answer.Components (answered_one v w h)
-    go (Answer.Components v) (Answer.Refused k) h = absurd (no_answer k v (sym h))
-    go (Answer.Refused k) (Answer.Components v) h = absurd (no_answer k v h)
-    go (Answer.Refused k) (Answer.Refused l) h = ap Answer.Refused (paper_one k l h)
+pub igrf_answer_one : (p : Paper Xyz) (r s : Result Xyz Refusal) → said r ≡ p → said s ≡ p → r ≡ s
+igrf_answer_one p r s e f = said_one r s (e ∙ sym f)
 
 -- ---- what stands behind an answer
 -- a day that is answered for has its own epoch and offset
@@ -106,11 +98,11 @@ known_then year day h e d =
 pub record Met (a : Profile) (soon : Bool) (e : EpochOffset) : Type 0 where
   pub place : T (height_ok a.one.height) × T (latitude_ok a.one.sin_phi a.one.cos_phi) × T (circle a.one.sin_lambda a.one.cos_lambda)
   pub offset : T (offset_ok e.offset)
-  pub lists : lists_found a soon ≡ Verdict.Accepted
+  pub lists : lists_found a soon ≡ accepted
   pub same : a.one.set_epoch ≡ e.epoch_year
   pub known : soon ≡ false → known_epoch e.epoch_year ≡ true
 
-first_year : (soon : Bool) (of_day one two : ℤ) → years_found soon of_day one two ≡ Verdict.Accepted → one ≡ of_day
+first_year : (soon : Bool) (of_day one two : ℤ) → years_found soon of_day one two ≡ accepted → one ≡ of_day
 first_year true of_day one two h = same_year_lem one of_day (check_accepted (same_year one of_day) (OtherEpoch of_day one) _ h).0
 first_year false of_day one two h = same_year_lem one of_day (check_accepted (same_year one of_day) (OtherEpoch of_day one) _ h).0
 
@@ -119,7 +111,7 @@ module _ (r : Bool) (a : Profile) (year day : ℤ) (v : Xyz) where
   abbrev Behind : EpochOffset → Type 0
   Behind e = Met a (early year) e × (found_by r (chosen a (early year)) e ≡ v)
 
-  on_day : of_place a ≡ Verdict.Accepted → (q : Paper EpochOffset) → igrf_day year day ≡ q → after q (day_shows_by r a (early year)) ≡ answered v → Behind (epoch_offset year day)
+  on_day : of_place a ≡ accepted → (q : Paper EpochOffset) → igrf_day year day ≡ q → after q (day_shows_by r a (early year)) ≡ answered v → Behind (epoch_offset year day)
   on_day p (answered e) d i =
       let q = told_answered (lists_found a (early year)) _ v i in
       let y = told_answered (years_found (early year) e.epoch_year a.one.set_epoch a.second_epoch) _ v q.1 in
@@ -149,6 +141,51 @@ module _ (a : Profile) (year day : ℤ) (v : Xyz) where
 
   pub rates_answered : igrf_says a year day ≡ answered v → rate_says a year day ≡ answered (component_rates (chosen a (early year)))
   rates_answered h = let p = told_answered (of_place a) _ v (sym (by_is false a year day) ∙ h) in rw (by_is true a year day, p.0) (of_day (igrf_day year day) refl p.1)
+
+-- ---- by the refusals alone
+after_told : {A B : Type 0} (u : Verdict) (p : Paper A) (f : A → Paper B) → after (told u p) f ≡ told u (after p f)
+after_told (Ok _) p f = refl
+after_told (Err k) p f = refl
+
+after_after : {A B C : Type 0} (q : Paper A) (g : A → Paper B) (f : B → Paper C) → after (after q g) f ≡ after q (λ x. after (g x) f)
+after_after (answered x) g f = refl
+after_after (refused n x z) g f = refl
+
+told_both : {A : Type 0} (u v : Verdict) (p : Paper A) → told (both u v) p ≡ told u (told v p)
+told_both (Ok _) v p = refl
+told_both (Err k) v p = refl
+
+module _ (r : Bool) (a : Profile) (year day : ℤ) where
+  -- what is refused of the sets on a day of this epoch
+  abbrev of_sets : EpochOffset → Verdict
+  of_sets e = both (lists_found a (early year)) (years_found (early year) e.epoch_year a.one.set_epoch a.second_epoch)
+
+  abbrev shown : EpochOffset → Paper Xyz
+  shown e = answered (found_by r (chosen a (early year)) e)
+
+  same : (q : Paper EpochOffset) → after q (day_shows_by r a (early year)) ≡ after q (λ e. after (told (of_sets e) (answered e)) shown)
+  same (answered e) = sym (after_told (of_sets e) (answered e) shown ∙ told_both (lists_found a (early year)) (years_found (early year) e.epoch_year a.one.set_epoch a.second_epoch) (shown e))
+  same (refused n x z) = refl
+
+  -- X, Y and Z, or their rates, follow what is accepted
+  pub by_accepted : igrf_by r a year day ≡ after (accepted_says a year day) shown
+  by_accepted =
+      let g : EpochOffset → Paper EpochOffset = λ e. told (of_sets e) (answered e) in
+      by_is r a year day ∙ ap (λ (q : Paper Xyz). told (of_place a) q) (same (igrf_day year day) ∙ sym (after_after (igrf_day year day) g shown)) ∙ sym (after_told (of_place a) (after (igrf_day year day) g) shown)
+
+module _ (a : Profile) (year day : ℤ) (e : EpochOffset) (h : accepted_says a year day ≡ answered e) where
+  -- what is accepted is the day's own epoch and offset, of a place, a day and sets that are answered for
+  pub accepted_day : e ≡ epoch_offset year day
+  accepted_day =
+      let p = told_answered (of_place a) _ e h in
+      let q = after_answered (igrf_day year day) _ e p.1 in
+      let l = told_answered (of_sets false a year day q.0) _ e q.1.1 in
+      sym (answered_one _ e l.1) ∙ sym (day_is year day q.0 q.1.0)
+
+  pub accepted_met : Met a (early year) e
+  accepted_met =
+      let f : igrf_by false a year day ≡ shown false a year day e = by_accepted false a year day ∙ ap (λ (q : Paper EpochOffset). after q (shown false a year day)) h in
+      subst (λ (o : EpochOffset). Met a (early year) o) (sym accepted_day) (behind false a year day _ f).0
 
 -- ---- demand 3
 module _ (a : Profile) (e : EpochOffset) where
@@ -184,8 +221,8 @@ module _ (a : Profile) (year day : ℤ) where
   pub rates_close : (v : Xyz) → rate_says a year day ≡ answered v → RateClose a (early year) v.x v.y v.z
   rates_close v h = let b = behind true a year day v h in subst (λ (u : Xyz). RateClose a (early year) u.x u.y u.z) b.1 (met_rates_close a (epoch_offset year day) (early year) b.0)
 
-  pub answer_close : (r : IgrfAnswer) → said r ≡ igrf_says a year day → (v : Xyz) → r ≡ Answer.Components v → IgrfClose a (early year) (epoch_offset year day) v
+  pub answer_close : (r : Result Xyz Refusal) → said r ≡ igrf_says a year day → (v : Xyz) → r ≡ Ok v → IgrfClose a (early year) (epoch_offset year day) v
   answer_close r e v h = close v (sym e ∙ ap said h)
 
-  pub answer_rates_close : (r : IgrfAnswer) → said r ≡ rate_says a year day → (v : Xyz) → r ≡ Answer.Components v → RateClose a (early year) v.x v.y v.z
+  pub answer_rates_close : (r : Result Xyz Refusal) → said r ≡ rate_says a year day → (v : Xyz) → r ≡ Ok v → RateClose a (early year) v.x v.y v.z
   answer_rates_close r e v h = rates_close v (sym e ∙ ap said h)

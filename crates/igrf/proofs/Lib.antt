@@ -5,5 +5,6 @@ pub mod Answers
 pub mod Close
 pub mod Laws
 pub mod Across
+pub mod Shown
 pub mod Usable
 pub mod Unique

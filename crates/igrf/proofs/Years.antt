@@ -1,4 +1,6 @@
 -- The years of the sets that are read. Assumes nothing.
+use Rattle.refusals.specs.Paper.{Verdict, accepted}
+use Rattle.std.specs.Prelude.{Err}
 use mathlib.Core.Path.{◌≡◌, refl, ap}
 use mathlib.Core.Bool.{Bool, true, false}
 use Prim.Native.Nat.{ℕ}
@@ -9,7 +11,6 @@ use lib.Signed.{lt_z}
 use mir.Syntax.{w32}
 use mir.Val.{SFits, of_z}
 use Rattle.refusals.specs.declared.Refusal.TheVariants.{OtherEpoch}
-use Rattle.refusals.specs.declared.Verdict.{Verdict}
 use Rattle.models.specs.Epochs.{same_year}
 use Rattle.models.proofs.Years.{bits_same, same_year_lem, year_same}
 use Rattle.igrf.specs.Igrf.{years_found}
@@ -31,17 +32,17 @@ pub years_alike : (a b : ℤ) → SFits w32 a → SFits w32 b → of_z w32 a ≡
 years_alike a b f g h = rw (bits_same a b f g h) (year_same b)
 
 module _ (of_day one two : ℤ) where
-  pub one_off : (soon : Bool) → same_year one of_day ≡ false → Verdict.Refused (OtherEpoch of_day one) ≡ years_found soon of_day one two
+  pub one_off : (soon : Bool) → same_year one of_day ≡ false → Err (OtherEpoch of_day one) ≡ years_found soon of_day one two
   one_off true e = rw e
   one_off false e = rw e
 
   module _ (a : same_year one of_day ≡ true) where
-    pub one_alone : (soon : Bool) → soon ≡ false → Verdict.Accepted ≡ years_found soon of_day one two
+    pub one_alone : (soon : Bool) → soon ≡ false → accepted ≡ years_found soon of_day one two
     one_alone soon s = rw (s, a)
 
     module _ (soon : Bool) (s : soon ≡ true) where
-      pub two_off : same_year two (of_day +ℤ pos 5) ≡ false → Verdict.Refused (OtherEpoch (of_day +ℤ pos 5) two) ≡ years_found soon of_day one two
+      pub two_off : same_year two (of_day +ℤ pos 5) ≡ false → Err (OtherEpoch (of_day +ℤ pos 5) two) ≡ years_found soon of_day one two
       two_off e = rw (s, a, e)
 
-      pub both_right : same_year two (of_day +ℤ pos 5) ≡ true → Verdict.Accepted ≡ years_found soon of_day one two
+      pub both_right : same_year two (of_day +ℤ pos 5) ≡ true → accepted ≡ years_found soon of_day one two
       both_right e = rw (s, a, e)

@@ -1,15 +1,14 @@
 -- The IGRF profile (document 02, Wish 8): what it is asked, its refusals in their order, its answer, and the exact field that it is near. Definitions only.
-use Rattle.std.specs.Prelude.{Bool, true, false, cond, List, ℕ, ℤ, pos, ◌+ℤ◌, length, get_or, Float}
+use Rattle.refusals.specs.Paper.{Paper, Verdict, accepted, after, answered, both, check, told}
+use Rattle.std.specs.Prelude.{Bool, true, false, cond, List, ◌++◌, ℕ, ℤ, pos, ◌+ℤ◌, min, length, get_or, drop, replicate, Float}
 use Rattle.std.specs.Int.Signed.{lt_z}
 use Rattle.std.specs.Float.{binary32}
-use Rattle.std.specs.Float.Ieee.{div, sub}
+use Rattle.std.specs.Float.Ieee.{div, of_bits, sub}
 use Rattle.exact.specs.Within.{Within}
-use Rattle.refusals.specs.Paper.{Paper, answered, paper, after, told, check}
 use Rattle.refusals.specs.declared.Refusal.TheVariants.{OtherEpoch}
-use Rattle.refusals.specs.declared.Verdict.{Verdict}
 use Rattle.models.specs.declared.epochs.EpochOffset.{EpochOffset}
 use Rattle.models.specs.Epochs.{EPOCH_YEARS, igrf_day, same_year}
-use Rattle.tables.specs.Degree.{degree_of}
+use Rattle.tables.specs.Degree.{N_MAX, degree_of, entries}
 use Rattle.lists.specs.Profile.{forecast_verdict, pair_verdict}
 use Rattle.sums.specs.Arithmetic.{Arithmetic, sizes, unrounded}
 use Rattle.sums.specs.Recurrence.{Input}
@@ -17,11 +16,12 @@ use Rattle.sums.specs.Paths.{between, five, nought, passing, path_x, path_y, pat
 use Rattle.synthesis.specs.declared.Xyz.{Xyz}
 use Rattle.synthesis.specs.Code.{first}
 use Rattle.field.specs.Turn.{turn_x, turn_z}
-use Rattle.field.specs.Field.{Asked, field_x, field_y, field_z, handed, place_verdict, strengths_of}
+use Rattle.lists.specs.declared.CoefficientSet.{CoefficientSet}
+use Rattle.lists.specs.declared.profile.SecondSet.{SecondSet}
+use Rattle.field.specs.declared.place.Place.{Place}
+use Rattle.field.specs.Field.{Asked, asked_of, field_x, field_y, field_z, handed, place_verdict, strengths_of}
 use Rattle.field.specs.There.{there_x, there_y, there_z}
 use Rattle.field.specs.Rated.{component_rates, no_time, rated}
-use Rattle.igrf.specs.declared.IgrfAnswer.{IgrfAnswer}
-use Rattle.igrf.specs.declared.IgrfAnswer.TheVariants as Answer
 
 -- what is asked, beside the day: the place and the first set, as Field is asked them; of the second set its year, g and h (its rates are never read)
 pub record Profile : Type 0 where
@@ -33,6 +33,10 @@ pub record Profile : Type 0 where
 abbrev pub profile : Asked → ℤ → List Float → List Float → Profile
 profile one year g h = record { one = one; second_epoch = year; second_g = g; second_h = h }
 
+-- the same of a place and the lent sets
+abbrev pub profile_of : Place → CoefficientSet → SecondSet → Profile
+profile_of p first second = profile (asked_of p first) second.epoch_year second.g.now second.h.now
+
 -- ---- before 2025
 -- the year lies before 2025: two sets are read
 unfoldable pub early : ℤ → Bool
@@ -42,9 +46,25 @@ early year = lt_z year (pos 2025)
 unfoldable pub fifth : Float → Float → Float
 fifth from to = div binary32 (sub binary32 to from) five
 
+-- what f makes of two lists at a place
+abbrev pub made_at : (Float → Float → Float) → List Float → List Float → ℕ → Float
+made_at f from to k = f (get_or from k nought) (get_or to k nought)
+
+-- the same of two lists of one length, place by place
+abbrev pub made : (Float → Float → Float) → List Float → List Float → List Float
+made f from to = first (made_at f from to) (length from)
+
 -- the rates between two lists of one length
 abbrev pub fifths : List Float → List Float → List Float
-fifths from to = first (λ k. fifth (get_or from k nought) (get_or to k nought)) (length from)
+fifths = made fifth
+
+-- how many places of an array two lists fill
+abbrev pub filled : List Float → List Float → ℕ
+filled from to = min (min (length from) (length to)) (entries N_MAX)
+
+-- what f makes of them in the array, which has zeros beyond
+abbrev pub in_array : (Float → Float → Float) → List Float → List Float → List Float
+in_array f from to = first (made_at f from to) (filled from to) ++ drop (filled from to) (replicate (entries N_MAX) (of_bits binary32 0))
 
 -- the first set with these as its rates: each coefficient at the date is first + offset·((second - first) / 5), every step rounded once
 unfoldable pub mixed : Profile → Asked
@@ -139,14 +159,19 @@ pub record RateClose (a : Profile) (soon : Bool) (x' y' z' : Float) : Type 0 whe
 -- ---- the refusals
 -- 6, 23, 22 and 7 of the lists that are read
 abbrev pub lists_found : Profile → Bool → Verdict
-lists_found a true = pair_verdict a.one.g a.one.h a.second_g a.second_h
-lists_found a false = forecast_verdict a.one.g a.one.h a.one.g_dot a.one.h_dot
+lists_found a soon = cond soon (pair_verdict a.one.g a.one.h a.second_g a.second_h) (forecast_verdict a.one.g a.one.h a.one.g_dot a.one.h_dot)
 
 -- 8: each set that is read has the year that is needed, which it carries with its own
 abbrev pub years_found : Bool → (of_day one two : ℤ) → Verdict
 years_found true of_day one two =
-    check (same_year one of_day) (OtherEpoch of_day one) (check (same_year two (of_day +ℤ pos EPOCH_YEARS)) (OtherEpoch (of_day +ℤ pos EPOCH_YEARS) two) Verdict.Accepted)
-years_found false of_day one two = check (same_year one of_day) (OtherEpoch of_day one) Verdict.Accepted
+    check (same_year one of_day) (OtherEpoch of_day one) (check (same_year two (of_day +ℤ pos EPOCH_YEARS)) (OtherEpoch (of_day +ℤ pos EPOCH_YEARS) two) accepted)
+years_found false of_day one two = check (same_year one of_day) (OtherEpoch of_day one) accepted
+
+-- the refusals alone, by document 02's order: 1, 2, 3, 4, 5, 6, 23, 22, 7, 8, then the day's epoch and offset
+abbrev pub accepted_says : Profile → (year day : ℤ) → Paper EpochOffset
+accepted_says a year day =
+    told (place_verdict a.one.height a.one.sin_phi a.one.cos_phi a.one.sin_lambda a.one.cos_lambda)
+    (after (igrf_day year day) (λ e. told (both (lists_found a (early year)) (years_found (early year) e.epoch_year a.one.set_epoch a.second_epoch)) (answered e)))
 
 -- from the day on, for its epoch and offset e
 abbrev pub day_shows : Profile → Bool → EpochOffset → Paper Xyz
@@ -171,8 +196,3 @@ rate_says a year day =
 abbrev pub igrf_by : (as-rates : Bool) → Profile → (year day : ℤ) → Paper Xyz
 igrf_by false a year day = igrf_says a year day
 igrf_by true a year day = rate_says a year day
-
--- the paper's number and values of each case of the answer
-abbrev pub said : IgrfAnswer → Paper Xyz
-said (Answer.Components v) = answered v
-said (Answer.Refused k) = paper k

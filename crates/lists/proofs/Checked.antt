@@ -16,10 +16,12 @@ use lib.Ieee.Bits.{is_true}
 use lib.Ieee.Fits.{and_i, and_l, and_r}
 use Rattle.exact.specs.Tests.{all_between, all_capped, between, capped}
 use Rattle.float32.proofs.Checks.{within_capped}
-use Rattle.refusals.specs.Paper.{check}
+use Rattle.refusals.specs.Paper.{Verdict, accepted, check}
 use Rattle.refusals.specs.declared.Refusal.{Refusal}
+use Rattle.refusals.specs.declared.ListName.{ListName}
+use Rattle.refusals.specs.declared.ListName.TheVariants.{G, H, GDot, HDot, SecondG, SecondH}
 use Rattle.refusals.specs.declared.Refusal.TheVariants.{Length, Coefficient, Degree}
-use Rattle.refusals.specs.declared.Verdict.{Verdict}
+use Rattle.std.specs.Prelude.{Err}
 use Rattle.refusals.proofs.Laws.{check_accepted, both_accepted}
 use Rattle.tables.proofs.Degrees.{of_long, of_short}
 use Rattle.tables.specs.Degree.{N_COEFF, N_MAX, WMM_MAX, degree_of, entries}
@@ -32,28 +34,14 @@ same e h = sym e ∙ h
 pub holds : {b : Bool} → b ≡ true → T b
 holds e = subst T (sym e) tt
 
--- ---- four tests, one after another
-module _ (a b c d : Bool) where
-  pub first_fails : a ≡ false → false ≡ a && b && c && d
-  first_fails e = rw e
-
-  pub second_fails : a ≡ true → b ≡ false → false ≡ a && b && c && d
-  second_fails e f = rw (e, f)
-
-  pub third_fails : a ≡ true → b ≡ true → c ≡ false → false ≡ a && b && c && d
-  third_fails e f g = rw (e, f, g)
-
-  pub last_decides : a ≡ true → b ≡ true → c ≡ true → d ≡ a && b && c && d
-  last_decides e f g = rw (e, f, g)
-
 -- ---- the search
-entries_next : (cap : Float) (k : ℕ) (s : List Float) (i : ℕ) → i < length s
+entries_next : (cap : Float) (k : ListName) (s : List Float) (i : ℕ) → i < length s
     → entries_verdict cap k i (drop i s) ≡ check (capped cap (get_or s i nan)) (Coefficient k i) (entries_verdict cap k (i + 1) (drop (i + 1) s))
 unfolding entries_verdict
 entries_next cap k s i h = rw (add-one, drop-cons s i nan h)
 
-module _ (cap : Float) (k : ℕ) (s : List Float) (i : ℕ) (q : Verdict) (h : i < length s) (e : q ≡ entries_verdict cap k i (drop i s)) where
-  pub entry_bad : not (capped cap (get_or s i nan)) ≡ true → Verdict.Refused (Coefficient k i) ≡ q
+module _ (cap : Float) (k : ListName) (s : List Float) (i : ℕ) (q : Verdict) (h : i < length s) (e : q ≡ entries_verdict cap k i (drop i s)) where
+  pub entry_bad : not (capped cap (get_or s i nan)) ≡ true → Err (Coefficient k i) ≡ q
   entry_bad n = sym (e ∙ entries_next cap k s i h ∙ rw (not-true (capped cap (get_or s i nan)) n))
 
   pub entry_good : not (capped cap (get_or s i nan)) ≡ false → q ≡ entries_verdict cap k (i + 1) (drop (i + 1) s)
@@ -110,12 +98,12 @@ flags_decide cap g h gd hd m n k l a b c d =
     (no_flag (all_between (neg main_cap) main_cap g) (all_between (neg main_cap) main_cap h) (all_between (neg cap) cap gd) (all_between (neg cap) cap hd))
 
 -- nothing over a cap: the search finds nothing
-entries_pass : (cap : Float) (k i : ℕ) (l : List Float) → T (all_capped cap l) → entries_verdict cap k i l ≡ Verdict.Accepted
+entries_pass : (cap : Float) (k : ListName) (i : ℕ) (l : List Float) → T (all_capped cap l) → entries_verdict cap k i l ≡ accepted
 unfolding entries_verdict all_capped
 entries_pass cap k i [] t = refl
 entries_pass cap k i (x ∷ l) t = go (capped cap x) (entries_verdict cap k (suc i) l) (and_l (capped cap x) (all_capped cap l) t) (entries_pass cap k (suc i) l (and_r (capped cap x) (all_capped cap l) t))
   where
-    go : (b : Bool) (q : Verdict) → T b → q ≡ Verdict.Accepted → check b (Coefficient k i) q ≡ Verdict.Accepted
+    go : (b : Bool) (q : Verdict) → T b → q ≡ accepted → check b (Coefficient k i) q ≡ accepted
     go true q h e = e
     go false q h e = absurd h
 
@@ -127,13 +115,13 @@ between_capped n d (x ∷ l) t =
     let cap = fin false n d in
     and_i (capped cap x) (all_capped cap l) (within_capped n d x (and_l (between (neg cap) cap x) (all_between (neg cap) cap l) t)) (between_capped n d l (and_r (between (neg cap) cap x) (all_between (neg cap) cap l) t))
 
-cap_pass : (n : ℕ) (d : ℤ) (k : ℕ) (l : List Float) → T (all_between (neg (fin false n d)) (fin false n d) l) → entries_verdict (fin false n d) k 0 l ≡ Verdict.Accepted
+cap_pass : (n : ℕ) (d : ℤ) (k : ListName) (l : List Float) → T (all_between (neg (fin false n d)) (fin false n d) l) → entries_verdict (fin false n d) k 0 l ≡ accepted
 cap_pass n d k l t = entries_pass (fin false n d) k 0 l (between_capped n d l t)
 
 -- every entry within its cap: the search finds nothing
-within_pass : (n : ℕ) (e : ℤ) (k : ℕ) (g h gd hd : List Float) → within_of (fin false n e) g h gd hd ≡ true → Verdict.Accepted ≡ caps_by k (fin false n e) g h gd hd
+within_pass : (n : ℕ) (e : ℤ) (k l : ListName) (g h gd hd : List Float) → within_of (fin false n e) g h gd hd ≡ true → accepted ≡ caps_by k l (fin false n e) g h gd hd
 unfolding within_of of_bits
-within_pass n e k g h gd hd w =
+within_pass n e k l g h gd hd w =
     let cap = fin false n e in
     let a = all_between (neg main_cap) main_cap g in
     let b = all_between (neg main_cap) main_cap h in
@@ -142,37 +130,18 @@ within_pass n e k g h gd hd w =
     let t1 : T (a && b && c && d) = holds w in
     let t2 = and_l (a && b && c) d t1 in
     let t3 = and_l (a && b) c t2 in
-    rw (cap_pass 1 (pos 16) 0 g (and_l a b t3), cap_pass 1 (pos 16) 1 h (and_r a b t3), cap_pass n e k gd (and_r (a && b) c t2), cap_pass n e (k + 1) hd (and_r (a && b && c) d t1))
+    rw (cap_pass 1 (pos 16) G g (and_l a b t3), cap_pass 1 (pos 16) H h (and_r a b t3), cap_pass n e k gd (and_r (a && b) c t2), cap_pass n e l hd (and_r (a && b && c) d t1))
 
 -- of a set, and of g and h of two
-pub caps_pass : (g h gd hd : List Float) → within_of rate_cap g h gd hd ≡ true → Verdict.Accepted ≡ caps_verdict g h gd hd
+pub caps_pass : (g h gd hd : List Float) → within_of rate_cap g h gd hd ≡ true → accepted ≡ caps_verdict g h gd hd
 unfolding of_bits
-caps_pass g h gd hd w = within_pass 1 (pos 12) 2 g h gd hd w
+caps_pass g h gd hd w = within_pass 1 (pos 12) GDot HDot g h gd hd w
 
-pub pair_caps_pass : (g h gd hd : List Float) → within_of main_cap g h gd hd ≡ true → Verdict.Accepted ≡ caps_by 4 main_cap g h gd hd
+pub pair_caps_pass : (g h gd hd : List Float) → within_of main_cap g h gd hd ≡ true → accepted ≡ caps_by SecondG SecondH main_cap g h gd hd
 unfolding of_bits
-pair_caps_pass g h gd hd w = within_pass 1 (pos 16) 4 g h gd hd w
+pair_caps_pass g h gd hd w = within_pass 1 (pos 16) SecondG SecondH g h gd hd w
 
 -- ---- the lengths
--- two tests, of which either does
-module _ (a b : Bool) where
-  pub either_first : a ≡ true → true ≡ a || b
-  either_first e = rw e
-
-  pub second_decides : a ≡ false → b ≡ a || b
-  second_decides e = rw e
-
--- three tests, one after another
-module _ (a b c : Bool) where
-  pub first_of_three : a ≡ false → false ≡ a && b && c
-  first_of_three e = rw e
-
-  pub second_of_three : a ≡ true → b ≡ false → false ≡ a && b && c
-  second_of_three e f = rw (e, f)
-
-  pub last_of_three : a ≡ true → b ≡ true → c ≡ a && b && c
-  last_of_three e f = rw (e, f)
-
 -- lists of one degree: their lengths are those of the first
 module _ (g h gd hd : List Float) where
   pub alike_long : one_degree g h gd hd ≡ true → (length h ≡ length g) × (length gd ≡ length g) × (length hd ≡ length g)
@@ -195,29 +164,29 @@ module _ (g h gd hd : List Float) where
       go true = refl
       go false = refl
 
-  pub lengths_pass : one_degree g h gd hd ≡ true → whole g ≡ true → Verdict.Accepted ≡ lengths_verdict g h gd hd
+  pub lengths_pass : one_degree g h gd hd ≡ true → whole g ≡ true → accepted ≡ lengths_verdict g h gd hd
   unfolding lengths_verdict
   lengths_pass e w = rw (first_speaks e ∙ w, e)
 
-  pub none_whole : one_degree g h gd hd ≡ true → whole g ≡ false → Verdict.Refused Length ≡ lengths_verdict g h gd hd
+  pub none_whole : one_degree g h gd hd ≡ true → whole g ≡ false → Err Length ≡ lengths_verdict g h gd hd
   unfolding lengths_verdict
   none_whole e w = rw (first_speaks e ∙ w)
 
-  pub two_degrees : one_degree g h gd hd ≡ false → all_whole g h gd hd ≡ true → Verdict.Refused Degree ≡ lengths_verdict g h gd hd
+  pub two_degrees : one_degree g h gd hd ≡ false → all_whole g h gd hd ≡ true → Err Degree ≡ lengths_verdict g h gd hd
   unfolding lengths_verdict
   two_degrees e w = rw (w, e)
 
-  pub one_not_whole : all_whole g h gd hd ≡ false → Verdict.Refused Length ≡ lengths_verdict g h gd hd
+  pub one_not_whole : all_whole g h gd hd ≡ false → Err Length ≡ lengths_verdict g h gd hd
   unfolding lengths_verdict
   one_not_whole w = rw w
 
 -- ---- the lists
-pub bad_lengths : (g h gd hd : List Float) (k : Refusal) → lengths_verdict g h gd hd ≡ Verdict.Refused k → Verdict.Refused k ≡ lists_verdict g h gd hd
+pub bad_lengths : (g h gd hd : List Float) (k : Refusal) → lengths_verdict g h gd hd ≡ Err k → Err k ≡ lists_verdict g h gd hd
 unfolding lists_verdict
 bad_lengths g h gd hd k e = rw e
 
-module _ (g h gd hd : List Float) (e : lengths_verdict g h gd hd ≡ Verdict.Accepted) where
-  pub lists_pass : within_of rate_cap g h gd hd ≡ true → Verdict.Accepted ≡ lists_verdict g h gd hd
+module _ (g h gd hd : List Float) (e : lengths_verdict g h gd hd ≡ accepted) where
+  pub lists_pass : within_of rate_cap g h gd hd ≡ true → accepted ≡ lists_verdict g h gd hd
   unfolding lists_verdict
   lists_pass w = caps_pass g h gd hd w ∙ rw e
 
@@ -226,7 +195,7 @@ module _ (g h gd hd : List Float) (e : lengths_verdict g h gd hd ≡ Verdict.Acc
   caps_decide v r = r ∙ rw e
 
 -- ---- the lists of the WMM's sets
-pub too_short : (g h gd hd : List Float) → long g h gd hd ≡ false → Verdict.Refused Length ≡ ninety_verdict g h gd hd
+pub too_short : (g h gd hd : List Float) → long g h gd hd ≡ false → Err Length ≡ ninety_verdict g h gd hd
 unfolding ninety_verdict
 too_short g h gd hd e = rw e
 
@@ -235,19 +204,19 @@ unfolding ninety_verdict
 caps_of_ninety g h gd hd e v r = r ∙ rw e
 
 -- ---- the search, list by list
-module _ (k : ℕ) (cap : Float) (g h gd hd : List Float) where
-  pub bad_g : (r : Refusal) → entries_verdict main_cap 0 0 g ≡ Verdict.Refused r → Verdict.Refused r ≡ caps_by k cap g h gd hd
+module _ (k l : ListName) (cap : Float) (g h gd hd : List Float) where
+  pub bad_g : (r : Refusal) → entries_verdict main_cap G 0 g ≡ Err r → Err r ≡ caps_by k l cap g h gd hd
   bad_g r e = rw e
 
-  module _ (a0 : entries_verdict main_cap 0 0 g ≡ Verdict.Accepted) where
-    pub bad_h : (r : Refusal) → entries_verdict main_cap 1 0 h ≡ Verdict.Refused r → Verdict.Refused r ≡ caps_by k cap g h gd hd
+  module _ (a0 : entries_verdict main_cap G 0 g ≡ accepted) where
+    pub bad_h : (r : Refusal) → entries_verdict main_cap H 0 h ≡ Err r → Err r ≡ caps_by k l cap g h gd hd
     bad_h r e = rw (a0, e)
 
-    module _ (a1 : entries_verdict main_cap 1 0 h ≡ Verdict.Accepted) where
-      pub bad_gd : (r : Refusal) → entries_verdict cap k 0 gd ≡ Verdict.Refused r → Verdict.Refused r ≡ caps_by k cap g h gd hd
+    module _ (a1 : entries_verdict main_cap H 0 h ≡ accepted) where
+      pub bad_gd : (r : Refusal) → entries_verdict cap k 0 gd ≡ Err r → Err r ≡ caps_by k l cap g h gd hd
       bad_gd r e = rw (a0, a1, e)
 
-      pub last_list : entries_verdict cap k 0 gd ≡ Verdict.Accepted → entries_verdict cap (k + 1) 0 hd ≡ caps_by k cap g h gd hd
+      pub last_list : entries_verdict cap k 0 gd ≡ accepted → entries_verdict cap l 0 hd ≡ caps_by k l cap g h gd hd
       last_list a2 = rw (a0, a1, a2)
 
 -- lists that nothing is refused of
@@ -258,7 +227,7 @@ pub record Listed (g h gd hd : List Float) : Type 0 where
   pub gd_capped : T (all_capped rate_cap gd)
   pub hd_capped : T (all_capped rate_cap hd)
 
-pub entries_capped : (cap : Float) (k i : ℕ) (l : List Float) → entries_verdict cap k i l ≡ Verdict.Accepted → T (all_capped cap l)
+pub entries_capped : (cap : Float) (k : ListName) (i : ℕ) (l : List Float) → entries_verdict cap k i l ≡ accepted → T (all_capped cap l)
 unfolding entries_verdict all_capped
 entries_capped cap k i [] e = tt
 entries_capped cap k i (x ∷ l) e =
@@ -299,7 +268,7 @@ degree_whole l e = go (eqb (length l) (entries N_MAX)) refl e
 
 module _ (g h gd hd : List Float) where
   -- what is known where the lengths are not refused
-  pub lengths_long : lengths_verdict g h gd hd ≡ Verdict.Accepted → Long g h gd hd
+  pub lengths_long : lengths_verdict g h gd hd ≡ accepted → Long g h gd hd
   unfolding lengths_verdict
   lengths_long e =
       let u = check_accepted (all_whole g h gd hd) Length _ e in
@@ -308,29 +277,29 @@ module _ (g h gd hd : List Float) where
       record { g_long = whole_degree g (sym (first_speaks g h gd hd v.0) ∙ u.0); h_long = l.0; gd_long = l.1; hd_long = l.2 }
 
   -- and of lists of which that is known nothing is refused
-  pub long_pass : Long g h gd hd → lengths_verdict g h gd hd ≡ Verdict.Accepted
+  pub long_pass : Long g h gd hd → lengths_verdict g h gd hd ≡ accepted
   long_pass l =
       let o : one_degree g h gd hd ≡ true = rw (l.h_long, l.gd_long, l.hd_long, eq-eqb (length g) (length g) refl) refl in
       sym (lengths_pass g h gd hd o (degree_whole g l.g_long))
 
-pub listed : (g h gd hd : List Float) → lists_verdict g h gd hd ≡ Verdict.Accepted → Listed g h gd hd
+pub listed : (g h gd hd : List Float) → lists_verdict g h gd hd ≡ accepted → Listed g h gd hd
 unfolding lists_verdict
 listed g h gd hd e =
     let u = both_accepted (lengths_verdict g h gd hd) _ e in
-    let q1 = both_accepted (entries_verdict main_cap 0 0 g) _ u.1 in
-    let q2 = both_accepted (entries_verdict main_cap 1 0 h) _ q1.1 in
-    let q3 = both_accepted (entries_verdict rate_cap 2 0 gd) _ q2.1 in
+    let q1 = both_accepted (entries_verdict main_cap G 0 g) _ u.1 in
+    let q2 = both_accepted (entries_verdict main_cap H 0 h) _ q1.1 in
+    let q3 = both_accepted (entries_verdict rate_cap GDot 0 gd) _ q2.1 in
     record {
       long = lengths_long g h gd hd u.0;
-      g_capped = entries_capped main_cap 0 0 g q1.0;
-      h_capped = entries_capped main_cap 1 0 h q2.0;
-      gd_capped = entries_capped rate_cap 2 0 gd q3.0;
-      hd_capped = entries_capped rate_cap 3 0 hd q3.1;
+      g_capped = entries_capped main_cap G 0 g q1.0;
+      h_capped = entries_capped main_cap H 0 h q2.0;
+      gd_capped = entries_capped rate_cap GDot 0 gd q3.0;
+      hd_capped = entries_capped rate_cap HDot 0 hd q3.1;
     }
 
 -- and of lists of which that is known nothing is refused
-pub listed_pass : {g h gd hd : List Float} → Listed g h gd hd → lists_verdict g h gd hd ≡ Verdict.Accepted
+pub listed_pass : {g h gd hd : List Float} → Listed g h gd hd → lists_verdict g h gd hd ≡ accepted
 unfolding lists_verdict
 listed_pass {g} {h} {gd} {hd} l =
     rw (long_pass g h gd hd l.long)
-    (rw (entries_pass main_cap 0 0 g l.g_capped, entries_pass main_cap 1 0 h l.h_capped, entries_pass rate_cap 2 0 gd l.gd_capped, entries_pass rate_cap 3 0 hd l.hd_capped) refl)
+    (rw (entries_pass main_cap G 0 g l.g_capped, entries_pass main_cap H 0 h l.h_capped, entries_pass rate_cap GDot 0 gd l.gd_capped, entries_pass rate_cap HDot 0 hd l.hd_capped) refl)

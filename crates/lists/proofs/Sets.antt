@@ -2,18 +2,16 @@
 use mathlib.Core.Path.{◌≡◌, sym, ap, ◌∙◌}
 use mathlib.Core.Bool.{true}
 use lib.IntN.{ℤ}
-use Rattle.refusals.specs.Paper.{Paper, answered, refused, paper, after}
+use Rattle.std.specs.Prelude.{Result}
+use Rattle.refusals.specs.Paper.{Paper, answered, refused, paper, after, said}
 use Rattle.refusals.specs.declared.Refusal.{Refusal}
 use Rattle.refusals.proofs.Laws.{answered_one, no_answer, no_refusal, paper_one}
-use Rattle.lists.specs.declared.ReadAnswer.{ReadAnswer}
+use Rattle.refusals.proofs.Laws as refusal_laws
 use Rattle.lists.specs.Lists.{long}
-use Rattle.lists.specs.Sets.{Left, Lists, ModelSet, afterwards, left, read_into, said}
+use Rattle.lists.specs.Sets.{Left, Lists, ModelSet, afterwards, left, read_into}
 
-pub said_one : (x y : ReadAnswer) → said x ≡ said y → x ≡ y
-said_one (ReadAnswer.Epoch y) (ReadAnswer.Epoch z) e = ap ReadAnswer.Epoch (answered_one y z e)
-said_one (ReadAnswer.Epoch y) (ReadAnswer.Refused k) e = absurd (no_answer k y (sym e))
-said_one (ReadAnswer.Refused k) (ReadAnswer.Epoch y) e = absurd (no_answer k y e)
-said_one (ReadAnswer.Refused k) (ReadAnswer.Refused l) e = ap ReadAnswer.Refused (paper_one k l e)
+pub said_one : (x y : Result ℤ Refusal) → said x ≡ said y → x ≡ y
+said_one = refusal_laws.said_one
 
 -- ---- a reader that says q and leaves the lists l, where p is what it reads and the lists it was lent are long enough
 module _ (p : Paper ModelSet) (held l : Lists) (q : Paper ℤ) (n : long held.g held.h held.g_dot held.h_dot ≡ true) (e : left q l ≡ read_into p held) where

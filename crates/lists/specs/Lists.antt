@@ -1,11 +1,12 @@
 -- The checks of the four lent lists (document 01, "Refusal numbers"). Definitions only.
-use Rattle.std.specs.Prelude.{◌≡◌, Bool, ◌&&◌, ◌||◌, List, [], ◌∷◌, ℕ, suc, ◌+◌, eqb, length, Float}
+use Rattle.std.specs.Prelude.{◌≡◌, Bool, ◌&&◌, ◌||◌, List, [], ◌∷◌, ℕ, suc, eqb, length, Float}
 use Rattle.std.specs.Float.{binary32}
 use Rattle.std.specs.Float.Ieee.{neg, of_bits}
 use Rattle.exact.specs.Tests.{all_between, capped}
-use Rattle.refusals.specs.Paper.{both, check}
+use Rattle.refusals.specs.Paper.{Verdict, accepted, both, check}
+use Rattle.refusals.specs.declared.ListName.{ListName}
+use Rattle.refusals.specs.declared.ListName.TheVariants.{G, H, GDot, HDot}
 use Rattle.refusals.specs.declared.Refusal.TheVariants.{Length, Coefficient, Degree}
-use Rattle.refusals.specs.declared.Verdict.{Verdict}
 use Rattle.tables.specs.Degree.{N_COEFF, N_MAX, WMM_MAX, degree_of, entries}
 
 -- caps of 65,536 nT, and of 4,096 nT a year
@@ -16,8 +17,8 @@ abbrev pub rate_cap : Float
 rate_cap = of_bits binary32 0x45800000
 
 -- refusal 7 at the first entry of list k, from index i on, that is not finite or over its cap
-unfoldable pub entries_verdict : Float → ℕ → ℕ → List Float → Verdict
-entries_verdict cap k i [] = Verdict.Accepted
+unfoldable pub entries_verdict : Float → ListName → ℕ → List Float → Verdict
+entries_verdict cap k i [] = accepted
 entries_verdict cap k i (x ∷ l) = check (capped cap x) (Coefficient k i) (entries_verdict cap k (suc i) l)
 
 -- a list of degree 12 or of degree 13: of 90 entries, or of 104
@@ -43,17 +44,17 @@ pub record Long (g h gd hd : List Float) : Type 0 where
 abbrev pub long : List Float → List Float → List Float → List Float → Bool
 long g h g_dot h_dot = eqb (length g) N_COEFF && eqb (length h) N_COEFF && eqb (length g_dot) N_COEFF && eqb (length h_dot) N_COEFF
 
--- refusal 7 in the first list that has it: g and h are the lists 0 and 1, and the two others, which have a cap of their own, k and k + 1
-abbrev pub caps_by : ℕ → Float → List Float → List Float → List Float → List Float → Verdict
-caps_by k cap g h c d = both (entries_verdict main_cap 0 0 g) (both (entries_verdict main_cap 1 0 h) (both (entries_verdict cap k 0 c) (entries_verdict cap (k + 1) 0 d)))
+-- refusal 7 in the first list that has it: g and h, then the two others, which have names and a cap of their own
+abbrev pub caps_by : (third fourth : ListName) → Float → List Float → List Float → List Float → List Float → Verdict
+caps_by third fourth cap g h c d = both (entries_verdict main_cap G 0 g) (both (entries_verdict main_cap H 0 h) (both (entries_verdict cap third 0 c) (entries_verdict cap fourth 0 d)))
 
 -- of a set: the others are the rates
 abbrev pub caps_verdict : List Float → List Float → List Float → List Float → Verdict
-caps_verdict g h g_dot h_dot = caps_by 2 rate_cap g h g_dot h_dot
+caps_verdict g h g_dot h_dot = caps_by GDot HDot rate_cap g h g_dot h_dot
 
 -- refusal 6, then 23
 unfoldable pub lengths_verdict : List Float → List Float → List Float → List Float → Verdict
-lengths_verdict g h g_dot h_dot = check (all_whole g h g_dot h_dot) Length (check (one_degree g h g_dot h_dot) Degree Verdict.Accepted)
+lengths_verdict g h g_dot h_dot = check (all_whole g h g_dot h_dot) Length (check (one_degree g h g_dot h_dot) Degree accepted)
 
 -- refusal 6, 23, then 7
 unfoldable pub lists_verdict : List Float → List Float → List Float → List Float → Verdict

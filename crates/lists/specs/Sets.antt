@@ -1,10 +1,8 @@
 -- A set that is read, of a text or of bytes, and what the reader leaves. Definitions only.
 use Rattle.std.specs.Prelude.{◌≡◌, List, ℤ, length, Float}
-use Rattle.refusals.specs.Paper.{Paper, answered, refused, paper, unless}
+use Rattle.refusals.specs.Paper.{Paper, Verdict, answered, refused, paper, unless}
 use Rattle.refusals.specs.declared.Refusal.TheVariants.{Length}
-use Rattle.refusals.specs.declared.Verdict.{Verdict}
 use Rattle.tables.specs.Degree.{N_COEFF}
-use Rattle.lists.specs.declared.ReadAnswer.{ReadAnswer}
 use Rattle.lists.specs.Lists.{caps_verdict, long}
 
 -- the four lists
@@ -46,8 +44,3 @@ afterwards (refused n f z) held = left (refused n f z) held
 -- 6, then what is read
 abbrev pub read_into : Paper ModelSet → Lists → Left
 read_into p held = afterwards (unless (long held.g held.h held.g_dot held.h_dot) (paper Length) p) held
-
--- what a reader's answer says, on paper
-abbrev pub said : ReadAnswer → Paper ℤ
-said (ReadAnswer.Epoch y) = answered y
-said (ReadAnswer.Refused k) = paper k

@@ -1,23 +1,32 @@
-// The checks of the four lent lists: refusals 6, 23 and 7. And what a reader of a set answers.
+// The four lent lists of a set, and their checks: refusals 6, 23 and 7.
 #![tactic(auto)]
 
-ghost use Rattle.std.specs.Prelude.{◌≡◌, cond, ◌<◌, ◌≤◌};
+ghost use Rattle.std.specs.Prelude.{◌≡◌, cond, ◌≤◌};
 ghost use Rattle.std.specs.Float.Ieee.{neg};
 ghost use Rattle.exact.specs.Tests.{all_between};
 ghost use Rattle.lists.specs.Lists.{all_whole, caps_by, caps_verdict, entries_verdict, lengths_verdict, lists_verdict, long, one_degree, whole, within_of};
 
-use refusals::{Refusal, Verdict};
+use refusals::{ListName, Refusal, Verdict};
 use tables::{N_COEFF, N_COEFF_MAX};
 
 mod profile;
 
-pub use profile::{check_forecast, check_pair};
+pub use profile::{SecondSet, check_pair};
 
-// What a reader of a set answers: the set's epoch year, with its lists in the lent ones.
+// The four lists of a set: the coefficients and their yearly rates.
 #[derive(Clone, Copy)]
-pub enum ReadAnswer {
-    Epoch(i32),
-    Refused(Refusal),
+pub struct Lists<'a> {
+    pub g: &'a [f32],
+    pub h: &'a [f32],
+    pub g_dot: &'a [f32],
+    pub h_dot: &'a [f32],
+}
+
+// A coefficient set, as it is lent.
+#[derive(Clone, Copy)]
+pub struct CoefficientSet<'a> {
+    pub epoch_year: i32,
+    pub lists: Lists<'a>,
 }
 
 // Caps on an entry's size: nT for the coefficients, nT a year for the rates.
@@ -25,21 +34,16 @@ const MAIN_CAP: f32 = 65536.0;
 
 const RATE_CAP: f32 = 4096.0;
 
-// The number of the list of rates of g, in refusal 7; that of h follows.
-const RATES: u8 = 2;
-
 // The search for the first entry over its cap. It runs only where there is one.
-fn check_entries(list: u8, s: &[f32], cap: f32) -> Verdict
+fn check_entries(list: ListName, s: &[f32], cap: f32) -> Verdict
     ensures { result ≡ entries_verdict cap list 0 s.now }
 {
-    let mut i = 0usize;
-    while i < s.len() {
-        if float32::over_cap(s[i], cap) {
-            return Verdict::Refused(Refusal::Coefficient { list, index: i });
+    for (index, x) in s.iter().enumerate() {
+        if float32::over_cap(*x, cap) {
+            return Err(Refusal::Coefficient { list, index });
         }
-        i += 1;
     }
-    Verdict::Accepted
+    Ok(())
 }
 
 // 1 where an entry is over its cap, else 0. No early exit, so that it runs by lanes; and a flag as wide
@@ -49,138 +53,123 @@ fn outside_flag(s: &[f32], cap: f32) -> u32
     ensures upper_bound { result ≤ 1 }
 {
     let mut bad = 0u32;
-    let mut i = 0usize;
-    while i < s.len() {
-        if float32::outside(s[i], -cap, cap) {
+    for x in s {
+        if float32::outside(*x, -cap, cap) {
             bad = 1;
         }
-        i += 1;
     }
     bad
-}
-
-// All four are looked at before the one question. `cap` is that of the last two.
-fn lists_within(cap: f32, g: &[f32], h: &[f32], third: &[f32], fourth: &[f32]) -> bool
-    ensures { result ≡ within_of cap g.now h.now third.now fourth.now }
-{
-    let a = outside_flag(g, MAIN_CAP);
-    let b = outside_flag(h, MAIN_CAP);
-    let c = outside_flag(third, cap);
-    let d = outside_flag(fourth, cap);
-    a + b + c + d == 0
 }
 
 // A list of degree 12 or of degree 13.
 fn is_whole(s: &[f32]) -> bool
     ensures { result ≡ whole s.now }
 {
-    if s.len() == N_COEFF {
-        return true;
-    }
-    s.len() == N_COEFF_MAX
+    s.len() == N_COEFF || s.len() == N_COEFF_MAX
 }
 
-fn are_whole(g: &[f32], h: &[f32], g_dot: &[f32], h_dot: &[f32]) -> bool
-    ensures { result ≡ all_whole g.now h.now g_dot.now h_dot.now }
-{
-    if !is_whole(g) {
-        return false;
-    }
-    if !is_whole(h) {
-        return false;
-    }
-    if !is_whole(g_dot) {
-        return false;
-    }
-    is_whole(h_dot)
-}
-
-fn are_alike(g: &[f32], h: &[f32], g_dot: &[f32], h_dot: &[f32]) -> bool
-    ensures { result ≡ one_degree g.now h.now g_dot.now h_dot.now }
-{
-    if h.len() != g.len() {
-        return false;
-    }
-    if g_dot.len() != g.len() {
-        return false;
-    }
-    h_dot.len() == g.len()
-}
-
-// The lengths alone: 6, then 23. Lists of one length are asked of first: there the first list speaks for
-// all.
-pub fn check_lengths(g: &[f32], h: &[f32], g_dot: &[f32], h_dot: &[f32]) -> Verdict
-    ensures answer { result ≡ lengths_verdict g.now h.now g_dot.now h_dot.now }
-    ensures kept { (g.exit.now ≡ g.entry.now) × (h.exit.now ≡ h.entry.now) × (g_dot.exit.now ≡ g_dot.entry.now) × (h_dot.exit.now ≡ h_dot.entry.now) }
-{
-    if are_alike(g, h, g_dot, h_dot) {
-        if is_whole(g) {
-            return Verdict::Accepted;
+impl<'a> Lists<'a> {
+    // The lists whose sums are the yearly rates: the rates in the place of the coefficients, and again as
+    // rates.
+    pub fn rated(self) -> Lists<'a>
+        ensures answer { let l = self.entry in result ≡ record { g = l.g_dot; h = l.h_dot; g_dot = l.g_dot; h_dot = l.h_dot } }
+        ensures kept { self.exit ≡ self.entry }
+    {
+        Lists {
+            g: self.g_dot,
+            h: self.h_dot,
+            ..self
         }
-        return Verdict::Refused(Refusal::Length);
     }
-    if are_whole(g, h, g_dot, h_dot) {
-        return Verdict::Refused(Refusal::Degree);
-    }
-    Verdict::Refused(Refusal::Length)
-}
 
-// Each of the four is 90 long: what the readers and the writer of the WMM's sets ask.
-pub fn lists_long(g: &[f32], h: &[f32], g_dot: &[f32], h_dot: &[f32]) -> bool
-    ensures answer { result ≡ long g.now h.now g_dot.now h_dot.now }
-    ensures kept { (g.exit.now ≡ g.entry.now) × (h.exit.now ≡ h.entry.now) × (g_dot.exit.now ≡ g_dot.entry.now) × (h_dot.exit.now ≡ h_dot.entry.now) }
-{
-    if g.len() != N_COEFF {
-        return false;
+    fn are_whole(self) -> bool
+        ensures { let l = self.entry in result ≡ all_whole l.g.now l.h.now l.g_dot.now l.h_dot.now }
+    {
+        is_whole(self.g) && is_whole(self.h) && is_whole(self.g_dot) && is_whole(self.h_dot)
     }
-    if h.len() != N_COEFF {
-        return false;
-    }
-    if g_dot.len() != N_COEFF {
-        return false;
-    }
-    h_dot.len() == N_COEFF
-}
 
-// The first entry that is over its cap, list by list: g and h are the lists 0 and 1, the others k and
-// k + 1, with a cap of their own. It runs only where there is one.
-fn search_caps(k: u8, cap: f32, g: &[f32], h: &[f32], third: &[f32], fourth: &[f32]) -> Verdict
-    requires { k < 255 }
-    ensures { result ≡ caps_by k cap g.now h.now third.now fourth.now }
-{
-    if let Verdict::Refused(r) = check_entries(0, g, MAIN_CAP) {
-        return Verdict::Refused(r);
+    fn are_alike(self) -> bool
+        ensures { let l = self.entry in result ≡ one_degree l.g.now l.h.now l.g_dot.now l.h_dot.now }
+    {
+        let n = self.g.len();
+        self.h.len() == n && self.g_dot.len() == n && self.h_dot.len() == n
     }
-    if let Verdict::Refused(r) = check_entries(1, h, MAIN_CAP) {
-        return Verdict::Refused(r);
-    }
-    if let Verdict::Refused(r) = check_entries(k, third, cap) {
-        return Verdict::Refused(r);
-    }
-    check_entries(k + 1, fourth, cap)
-}
 
-// The caps alone, whatever the lengths: for those who read or write a set. Sum's own checks are
-// `check_lists`, which has no other caller, so that the compiler puts them into it.
-pub fn check_caps(g: &[f32], h: &[f32], g_dot: &[f32], h_dot: &[f32]) -> Verdict
-    ensures answer { result ≡ caps_verdict g.now h.now g_dot.now h_dot.now }
-    ensures kept { (g.exit.now ≡ g.entry.now) × (h.exit.now ≡ h.entry.now) × (g_dot.exit.now ≡ g_dot.entry.now) × (h_dot.exit.now ≡ h_dot.entry.now) }
-{
-    if lists_within(RATE_CAP, g, h, g_dot, h_dot) {
-        return Verdict::Accepted;
+    // The lengths alone: 6, then 23. Lists of one length are asked of first: there the first list speaks
+    // for all.
+    pub fn check_lengths(self) -> Verdict
+        ensures answer { let l = self.entry in result ≡ lengths_verdict l.g.now l.h.now l.g_dot.now l.h_dot.now }
+        ensures kept { self.exit ≡ self.entry }
+    {
+        if self.are_alike() {
+            if is_whole(self.g) {
+                return Ok(());
+            }
+            return Err(Refusal::Length);
+        }
+        if self.are_whole() {
+            return Err(Refusal::Degree);
+        }
+        Err(Refusal::Length)
     }
-    search_caps(RATES, RATE_CAP, g, h, g_dot, h_dot)
-}
 
-pub fn check_lists(g: &[f32], h: &[f32], g_dot: &[f32], h_dot: &[f32]) -> Verdict
-    ensures answer { result ≡ lists_verdict g.now h.now g_dot.now h_dot.now }
-    ensures kept { (g.exit.now ≡ g.entry.now) × (h.exit.now ≡ h.entry.now) × (g_dot.exit.now ≡ g_dot.entry.now) × (h_dot.exit.now ≡ h_dot.entry.now) }
-{
-    if let Verdict::Refused(k) = check_lengths(g, h, g_dot, h_dot) {
-        return Verdict::Refused(k);
+    // Each of the four is 90 long: what the readers and the writer of the WMM's sets ask.
+    pub fn are_long(self) -> bool
+        ensures answer { let l = self.entry in result ≡ long l.g.now l.h.now l.g_dot.now l.h_dot.now }
+        ensures kept { self.exit ≡ self.entry }
+    {
+        self.g.len() == N_COEFF
+            && self.h.len() == N_COEFF
+            && self.g_dot.len() == N_COEFF
+            && self.h_dot.len() == N_COEFF
     }
-    if lists_within(RATE_CAP, g, h, g_dot, h_dot) {
-        return Verdict::Accepted;
+
+    // All four are looked at before the one question. `cap` is that of the last two.
+    #[tactic(auto, using(crate::proofs::Checked::flags_decide))]
+    fn are_within(self, cap: f32) -> bool
+        ensures { let l = self.entry in result ≡ within_of cap l.g.now l.h.now l.g_dot.now l.h_dot.now }
+    {
+        let a = outside_flag(self.g, MAIN_CAP);
+        let b = outside_flag(self.h, MAIN_CAP);
+        let c = outside_flag(self.g_dot, cap);
+        let d = outside_flag(self.h_dot, cap);
+        a + b + c + d == 0
     }
-    search_caps(RATES, RATE_CAP, g, h, g_dot, h_dot)
+
+    // The first entry that is over its cap, list by list. The last two have names and a cap of their own.
+    // It runs only where there is one.
+    fn search_caps(self, third: ListName, fourth: ListName, cap: f32) -> Verdict
+        ensures { let l = self.entry in result ≡ caps_by third fourth cap l.g.now l.h.now l.g_dot.now l.h_dot.now }
+    {
+        check_entries(ListName::G, self.g, MAIN_CAP)?;
+        check_entries(ListName::H, self.h, MAIN_CAP)?;
+        check_entries(third, self.g_dot, cap)?;
+        check_entries(fourth, self.h_dot, cap)
+    }
+
+    // The caps alone, whatever the lengths: for those who read or write a set. Sum's own checks are
+    // `check`, which has no other caller, so that the compiler puts them into it.
+    #[tactic(auto, using(crate::proofs::Checked::caps_pass))]
+    pub fn check_caps(self) -> Verdict
+        ensures answer { let l = self.entry in result ≡ caps_verdict l.g.now l.h.now l.g_dot.now l.h_dot.now }
+        ensures kept { self.exit ≡ self.entry }
+    {
+        if self.are_within(RATE_CAP) {
+            return Ok(());
+        }
+        self.search_caps(ListName::GDot, ListName::HDot, RATE_CAP)
+    }
+
+    // 6, 23, then 7.
+    #[tactic(auto, using(crate::proofs::Checked::caps_pass), unfolding(crate::specs::Lists::lists_verdict))]
+    pub fn check(self) -> Verdict
+        ensures answer { let l = self.entry in result ≡ lists_verdict l.g.now l.h.now l.g_dot.now l.h_dot.now }
+        ensures kept { self.exit ≡ self.entry }
+    {
+        self.check_lengths()?;
+        if self.are_within(RATE_CAP) {
+            return Ok(());
+        }
+        self.search_caps(ListName::GDot, ListName::HDot, RATE_CAP)
+    }
 }

@@ -3,59 +3,60 @@
 ghost use Rattle.std.specs.Prelude.{◌≡◌};
 ghost use Rattle.lists.specs.Profile.{forecast_verdict, pair_verdict, still};
 
-use crate::{MAIN_CAP, RATE_CAP, RATES, check_lengths, lists_within, search_caps};
-use refusals::{Refusal, Verdict};
+use crate::{Lists, MAIN_CAP, RATE_CAP};
+use refusals::{ListName, Refusal, Verdict};
 
-// The number of the second set's list g, in refusal 7; that of its h follows.
-const SECOND: u8 = 4;
+// The set of five years later: its rates are never read.
+#[derive(Clone, Copy)]
+pub struct SecondSet<'a> {
+    pub epoch_year: i32,
+    pub g: &'a [f32],
+    pub h: &'a [f32],
+}
 
 // The entries of degree 1 to 8: those above must not change.
 const FREE: usize = 44;
 
 // 6, 23, then 7, of g and h of the first set and of the second.
-pub fn check_pair(g: &[f32], h: &[f32], second_g: &[f32], second_h: &[f32]) -> Verdict
-    ensures answer { result ≡ pair_verdict g.now h.now second_g.now second_h.now }
-    ensures kept { (g.exit.now ≡ g.entry.now) × (h.exit.now ≡ h.entry.now) × (second_g.exit.now ≡ second_g.entry.now) × (second_h.exit.now ≡ second_h.entry.now) }
+#[tactic(auto, using(crate::proofs::Checked::pair_caps_pass), unfolding(crate::specs::Profile::pair_verdict))]
+pub fn check_pair(first: Lists<'_>, second: SecondSet<'_>) -> Verdict
+    ensures answer { let l = first.entry in let s = second.entry in result ≡ pair_verdict l.g.now l.h.now s.g.now s.h.now }
+    ensures kept { (first.exit ≡ first.entry) × (second.exit ≡ second.entry) }
 {
-    if let Verdict::Refused(k) = check_lengths(g, h, second_g, second_h) {
-        return Verdict::Refused(k);
+    let both = Lists {
+        g: first.g,
+        h: first.h,
+        g_dot: second.g,
+        h_dot: second.h,
+    };
+    both.check_lengths()?;
+    if both.are_within(MAIN_CAP) {
+        return Ok(());
     }
-    if lists_within(MAIN_CAP, g, h, second_g, second_h) {
-        return Verdict::Accepted;
-    }
-    search_caps(SECOND, MAIN_CAP, g, h, second_g, second_h)
+    both.search_caps(ListName::SecondG, ListName::SecondH, MAIN_CAP)
 }
 
 // Every rate above degree 8 is zero, of either sign.
 fn is_still(s: &[f32]) -> bool
     ensures { result ≡ still s.now }
 {
-    let mut i = FREE;
-    while i < s.len() {
-        if !(s[i] == 0.0) {
-            return false;
-        }
-        i += 1;
-    }
-    true
+    s.iter().skip(FREE).all(|x| *x == 0.0)
 }
 
-// 6, 23, 22, then 7, of the four lists of a set.
-pub fn check_forecast(g: &[f32], h: &[f32], g_dot: &[f32], h_dot: &[f32]) -> Verdict
-    ensures answer { result ≡ forecast_verdict g.now h.now g_dot.now h_dot.now }
-    ensures kept { (g.exit.now ≡ g.entry.now) × (h.exit.now ≡ h.entry.now) × (g_dot.exit.now ≡ g_dot.entry.now) × (h_dot.exit.now ≡ h_dot.entry.now) }
-{
-    if let Verdict::Refused(k) = check_lengths(g, h, g_dot, h_dot) {
-        return Verdict::Refused(k);
+impl<'a> Lists<'a> {
+    // 6, 23, 22, then 7, of the four lists of a set.
+    #[tactic(auto, using(crate::proofs::Checked::caps_pass), unfolding(crate::specs::Profile::forecast_verdict))]
+    pub fn check_forecast(self) -> Verdict
+        ensures answer { let l = self.entry in result ≡ forecast_verdict l.g.now l.h.now l.g_dot.now l.h_dot.now }
+        ensures kept { self.exit ≡ self.entry }
+    {
+        self.check_lengths()?;
+        if !is_still(self.g_dot) || !is_still(self.h_dot) {
+            return Err(Refusal::RateAboveEight);
+        }
+        if self.are_within(RATE_CAP) {
+            return Ok(());
+        }
+        self.search_caps(ListName::GDot, ListName::HDot, RATE_CAP)
     }
-    if !is_still(g_dot) {
-        return Verdict::Refused(Refusal::RateAboveEight);
-    }
-    if !is_still(h_dot) {
-        return Verdict::Refused(Refusal::RateAboveEight);
-    }
-    if lists_within(RATE_CAP, g, h, g_dot, h_dot) {
-        return Verdict::Accepted;
-    }
-    search_caps(RATES, RATE_CAP, g, h, g_dot, h_dot)
 }

@@ -3,9 +3,9 @@ use mathlib.Core.Path.{◌≡◌, refl, sym, ◌∙◌}
 use mathlib.Core.Bool.{Bool, true, false, ◌||◌, true≢false}
 use lib.IntN.{ℤ}
 use lib.Ieee.{of_bits, le}
-use Rattle.refusals.specs.Paper.{answered}
+use Rattle.refusals.specs.Paper.{answered, paper}
 use Rattle.models.specs.declared.errors.WmmErrorModel.{WmmErrorModel}
-use Rattle.models.specs.Epochs.{is_year, known_epoch}
+use Rattle.models.specs.Epochs.{is_year, known_epoch, unknown_epoch}
 use Rattle.models.specs.Records.{figure_ok, figures_ok, figures_says, listed_errors}
 use Rattle.models.specs.Errors.{built_in, errors2020, errors2025, error_says}
 use Rattle.models.proofs.Search.{first_match, passed_over}
@@ -18,6 +18,21 @@ usable_2020 = refl
 usable_2025 : figures_says errors2025 ≡ answered errors2025
 unfolding figure_ok figures_ok figures_says le of_bits
 usable_2025 = refl
+
+-- the call without a list, by its year
+module _ (year : ℤ) where
+  pub says_2020 : is_year 2020 year ≡ true → error_says year ≡ answered errors2020
+  unfolding known_epoch error_says
+  says_2020 e = rw e (first_match _ _ year e ∙ usable_2020)
+
+  module _ (n : is_year 2020 year ≡ false) where
+    pub says_2025 : is_year 2025 year ≡ true → error_says year ≡ answered errors2025
+    unfolding known_epoch error_says
+    says_2025 e = rw (n, e) (passed_over _ _ year n ∙ first_match _ _ year e ∙ usable_2025)
+
+    pub says_unknown : is_year 2025 year ≡ false → error_says year ≡ paper unknown_epoch
+    unfolding known_epoch error_says
+    says_unknown e = rw (n, e)
 
 -- a known year has its figures in the built-in list
 pub known_listed : (year : ℤ) → known_epoch year ≡ true → (m : WmmErrorModel) × (listed_errors built_in year ≡ answered m)

@@ -1,6 +1,6 @@
 -- Two years that are compared as i32s, and the years that are served. Assumes nothing.
 use mathlib.Core.Path.{◌≡◌, refl, sym, ap, ◌∙◌}
-use mathlib.Core.Bool.{Bool, true, false, not, ◌||◌}
+use mathlib.Core.Bool.{Bool, true, false, not, ◌||◌, true≢false}
 use Prim.Native.Nat.{ℕ, ◌*◌, ◌/◌}
 use native.Mathlib.Omega.{arith}
 use borrow.Author.Tests.{eqb-true, eq-eqb, ne_eqb, ltb-true, ltb-false}
@@ -26,13 +26,24 @@ year_same (negsuc a) = eq-eqb a a refl
 pub bits_same : (a b : ℤ) → SFits w32 a → SFits w32 b → of_z w32 a ≡ of_z w32 b → a ≡ b
 bits_same a b f g e = sym (to_z-of_z w32 a f) ∙ ap (to_z w32) e ∙ to_z-of_z w32 b g
 
+-- the two patterns are equal where the years are
+pub same_bits : (a b : ℤ) → SFits w32 a → SFits w32 b → of_z w32 b ≡ of_z w32 a → same_year a b ≡ true
+same_bits a b f g e = rw (bits_same b a g f e) (year_same a)
+
+pub other_bits : (a b : ℤ) → SFits w32 a → SFits w32 b → (of_z w32 b ≡ of_z w32 a → ⊥) → same_year a b ≡ false
+other_bits a b f g n = go (same_year a b) refl
+  where
+    go : (t : Bool) → same_year a b ≡ t → t ≡ false
+    go true h = absurd (n (ap (of_z w32) (sym (same_year_lem a b h))))
+    go false h = refl
+
 -- the comparison of the two patterns is that of the years
 pub years_compared : (a b : ℤ) → SFits w32 a → SFits w32 b → eqb (of_z w32 b) (of_z w32 a) ≡ same_year a b
-years_compared a b f g = go (same_year a b) refl
+years_compared a b f g = go (eqb (of_z w32 b) (of_z w32 a)) refl
   where
-    go : (t : Bool) → same_year a b ≡ t → eqb (of_z w32 b) (of_z w32 a) ≡ t
-    go true h = eq-eqb (of_z w32 b) (of_z w32 a) (ap (of_z w32) (sym (same_year_lem a b h)))
-    go false h = ne_eqb (of_z w32 b) (of_z w32 a) (λ e. absurd (let z : true ≡ false = sym (year_same b) ∙ ap (λ (y : ℤ). same_year y b) (bits_same b a g f e) ∙ h in let z : ◌≡◌ {A = ℕ} 0 1 = cc in omega arith))
+    go : (t : Bool) → eqb (of_z w32 b) (of_z w32 a) ≡ t → t ≡ same_year a b
+    go true h = sym (same_bits a b f g (eqb-true (of_z w32 b) (of_z w32 a) h))
+    go false h = sym (other_bits a b f g (λ e. let z : true ≡ false = sym (eq-eqb (of_z w32 b) (of_z w32 a) e) ∙ h in absurd (true≢false z)))
 
 -- ---- the epoch of a year is known from 2020 to 2029, and in no other year
 module _ (n : ℕ) where

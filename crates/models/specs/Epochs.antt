@@ -7,8 +7,6 @@ use Rattle.refusals.specs.declared.Refusal.{Refusal}
 use Rattle.refusals.specs.declared.Refusal.TheVariants.{DayOfYear, EpochYear}
 use Rattle.refusals.specs.Paper.{Paper, answered, paper, unless}
 use Rattle.models.specs.declared.epochs.EpochOffset.{EpochOffset}
-use Rattle.models.specs.declared.epochs.EpochAnswer.{EpochAnswer}
-use Rattle.models.specs.declared.epochs.EpochAnswer.TheVariants.{Epoch, Refused}
 use Rattle.models.specs.Calendar.{days_in_year}
 
 -- refusal 4
@@ -63,11 +61,6 @@ offset_of year epoch day = whole_and_part (year -ℤ epoch) (day -ℤ pos 1) (da
 -- the same of naturals, for a year of n days
 abbrev pub natural_offset : (year epoch day n : ℕ) → Float
 natural_offset year epoch day n = whole_and_part (pos (year - epoch)) (pos (day - 1)) n
-
--- what an answer says
-abbrev pub said : EpochAnswer → Paper EpochOffset
-said (Epoch e) = answered e
-said (Refused k) = paper k
 
 -- the epoch year and the offset
 abbrev pub epoch_offset : (year day : ℤ) → EpochOffset

@@ -2,10 +2,8 @@
 use Rattle.std.specs.Prelude.{List, [], ◌∷◌, ℤ, pos}
 use Rattle.std.specs.Float.{binary32}
 use Rattle.std.specs.Float.Ieee.{of_bits}
-use Rattle.refusals.specs.Paper.{Paper, answered, paper, unless}
+use Rattle.refusals.specs.Paper.{Paper, unless}
 use Rattle.models.specs.declared.errors.WmmErrorModel.{WmmErrorModel}
-use Rattle.models.specs.declared.errors.ErrorModelAnswer.{ErrorModelAnswer}
-use Rattle.models.specs.declared.errors.ErrorModelAnswer.TheVariants.{Model, Refused}
 use Rattle.models.specs.declared.records.ErrorRecord.{ErrorRecord}
 use Rattle.models.specs.Epochs.{known_epoch, wrong_epoch}
 use Rattle.models.specs.Records.{listed_errors}
@@ -41,11 +39,6 @@ errors2025 =
 -- the two built-in records
 abbrev pub built_in : List ErrorRecord
 built_in = record { epoch_year = pos 2020; figures = errors2020 } ∷ record { epoch_year = pos 2025; figures = errors2025 } ∷ []
-
--- what an answer says
-abbrev pub error_said : ErrorModelAnswer → Paper WmmErrorModel
-error_said (Model m) = answered m
-error_said (Refused k) = paper k
 
 -- refusal 5, then what the built-in list gives
 unfoldable pub error_says : ℤ → Paper WmmErrorModel

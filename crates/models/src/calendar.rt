@@ -2,6 +2,7 @@
 ghost use Rattle.std.specs.Prelude.{◌≡◌};
 ghost use Rattle.models.specs.Calendar.{leap_year, days_in_year};
 
+#[tactic(auto, using(crate::specs::Signed::fits_quot, crate::specs::Signed::divides_bits), unfolding(crate::specs::Calendar::leap_year))]
 fn is_leap_year(year: i32) -> bool
     ensures { result ≡ leap_year year }
 {

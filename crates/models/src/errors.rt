@@ -1,6 +1,7 @@
 // The error figures of the two models.
 ghost use Rattle.std.specs.Prelude.{◌≡◌};
-ghost use Rattle.models.specs.Errors.{error_said, error_says};
+ghost use Rattle.refusals.specs.Paper.{said};
+ghost use Rattle.models.specs.Errors.{error_says};
 
 use crate::epochs::UNKNOWN_EPOCH;
 use refusals::Refusal;
@@ -8,7 +9,7 @@ use refusals::Refusal;
 // Angles in degrees, strengths in nT. The declination's error is the root of the squares of sigma_c and
 // sigma_v / H. C and Rust lend lists that hold it, so its layout is C's.
 #[repr(C)]
-#[derive(Clone, Copy)]
+#[derive(Clone, Copy, Default)]
 pub struct WmmErrorModel {
     pub declination_sigma_c: f32,
     pub declination_sigma_v: f32,
@@ -18,12 +19,6 @@ pub struct WmmErrorModel {
     pub x: f32,
     pub y: f32,
     pub z: f32,
-}
-
-#[derive(Clone, Copy)]
-pub enum ErrorModelAnswer {
-    Model(WmmErrorModel),
-    Refused(Refusal),
 }
 
 const ERRORS_2020: WmmErrorModel = WmmErrorModel {
@@ -48,14 +43,13 @@ const ERRORS_2025: WmmErrorModel = WmmErrorModel {
     z: 141.0,
 };
 
-pub fn error_model_by_epoch_year(epoch_year: i32) -> ErrorModelAnswer
-    ensures { error_said result ≡ error_says epoch_year }
+#[tactic(auto, using(crate::specs::Signed::year_is, crate::specs::Signed::year_not, crate::proofs::BuiltIn::says_2020, crate::proofs::BuiltIn::says_2025, crate::proofs::BuiltIn::says_unknown))]
+pub fn error_model_by_epoch_year(epoch_year: i32) -> Result<WmmErrorModel, Refusal>
+    ensures { said result ≡ error_says epoch_year }
 {
-    if epoch_year == 2020 {
-        return ErrorModelAnswer::Model(ERRORS_2020);
+    match epoch_year {
+        2020 => Ok(ERRORS_2020),
+        2025 => Ok(ERRORS_2025),
+        _ => Err(UNKNOWN_EPOCH),
     }
-    if epoch_year == 2025 {
-        return ErrorModelAnswer::Model(ERRORS_2025);
-    }
-    ErrorModelAnswer::Refused(UNKNOWN_EPOCH)
 }

@@ -7,6 +7,6 @@ mod epochs;
 mod errors;
 mod records;
 
-pub use epochs::{EpochAnswer, EpochOffset, UNKNOWN_EPOCH, epoch, igrf_epoch, known_epoch};
-pub use errors::{ErrorModelAnswer, WmmErrorModel, error_model_by_epoch_year};
+pub use epochs::{EpochOffset, UNKNOWN_EPOCH, epoch, igrf_epoch, known_epoch};
+pub use errors::{WmmErrorModel, error_model_by_epoch_year};
 pub use records::{ErrorRecord, error_model_listed};

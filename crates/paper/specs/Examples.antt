@@ -1,6 +1,6 @@
 -- The worked examples of document 01, P1 to P12, as one table with a single statement: `examples` (`proofs/Examples.antt`). Wish 5 of document 02 changed the last answer of P10.
 -- What a call says stands as its number, 0 for an answer, and then the values, a float by its bits. The definitions are those that the contracts cite.
-use Rattle.std.specs.Prelude.{◌≡◌, List, [], ◌∷◌, ◌++◌, map, ℕ, ℤ, pos, replicate, set, get_or, Float}
+use Rattle.std.specs.Prelude.{◌≡◌, List, [], ◌∷◌, ◌++◌, map, ℕ, ℤ, pos, replicate, set, get_or, Float, Option, Some, None}
 use Rattle.std.specs.Float.{binary32}
 use Rattle.std.specs.Float.Ieee.{of_bits, to_bits}
 use Rattle.refusals.specs.Paper.{Paper, answered, refused}
@@ -15,7 +15,9 @@ use Rattle.sums.specs.Arithmetic.{rounded}
 use Rattle.sums.specs.Recurrence.{coefficient}
 use Rattle.synthesis.specs.Sum.{lent, sum_says}
 use Rattle.strengths.specs.declared.GeomagneticField.{GeomagneticField}
-use Rattle.strengths.specs.Strengths.{h_of, strength_says, Warning, blackout, caution, no_zone, zone_says, uncertainty_says}
+use Rattle.strengths.specs.declared.WarningZone.{WarningZone}
+use Rattle.strengths.specs.declared.WarningZone.TheVariants.{Blackout, Caution}
+use Rattle.strengths.specs.Strengths.{h_of, strength_says, zone_says, uncertainty_says}
 use Rattle.strengths.specs.Grid.{wrapped}
 use Rattle.field.specs.Field.{asked, field_says}
 
@@ -43,10 +45,10 @@ unfolding bits
 dated e = e.epoch_year ∷ bits e.offset ∷ []
 
 -- 0 no zone, 1 Blackout, 2 Caution
-zone : Warning → List ℤ
-zone no_zone = pos 0 ∷ []
-zone blackout = pos 1 ∷ []
-zone caution = pos 2 ∷ []
+zone : Option WarningZone → List ℤ
+zone None = pos 0 ∷ []
+zone (Some Blackout) = pos 1 ∷ []
+zone (Some Caution) = pos 2 ∷ []
 
 -- ---- what is asked
 abbrev pub nought : Float

@@ -1,24 +1,29 @@
 -- The ways to an answer of the yearly rates, that X, Y and Z of an answer are close to the exact rates, and one answer. Assumes nothing.
+use Rattle.std.specs.Prelude.{Ok, Err, IfOk, Result}
 use mathlib.Core.Path.{◌≡◌, refl, sym, ap, ◌∙◌, subst}
-use mathlib.Core.Bool.{Bool, true, false, not, ◌||◌}
+use mathlib.Core.Bool.{Bool, true, false, cond, not, ◌||◌}
 use lib.IntN.{ℤ}
-use lib.Ieee.{binary32, of_bits, eq}
+use lib.Ieee.{Float, binary32, of_bits, eq}
 use borrow.Author.Tests.{not-true}
-use Rattle.refusals.specs.Paper.{Paper, answered, paper, unless, after}
+use Rattle.refusals.specs.Paper.{Paper, answered, paper, unless, after, said}
 use Rattle.refusals.specs.declared.Refusal.{Refusal}
 use Rattle.refusals.specs.declared.Refusal.TheVariants.{ZeroDivisor}
-use Rattle.refusals.proofs.Laws.{passed, paper_one, no_answer, answered_one}
+use Rattle.refusals.proofs.Laws.{passed, no_answer, answered_one, said_one}
 use Rattle.synthesis.specs.declared.Xyz.{Xyz}
 use Rattle.strengths.specs.declared.GeomagneticField.{GeomagneticField}
 use Rattle.strengths.specs.Strengths.{h_of, f_of}
-use Rattle.field.specs.Field.{Asked, dated_says, field_says}
+use Rattle.field.specs.Field.{Asked, asked_of, dated_says, field_says}
+use Rattle.lists.specs.declared.Lists.{Lists}
+use Rattle.lists.specs.declared.CoefficientSet.{CoefficientSet}
+use Rattle.synthesis.specs.Sum.{uncapped_says}
+use Rattle.field.specs.declared.place.Place.{Place}
+use Rattle.field.specs.Dated.{xyz_by}
+use Rattle.field.proofs.Uncapped.{xyz_answered}
 use Rattle.field.proofs.Answers.{after_answered}
 use Rattle.field.proofs.Laws.{close_x, close_y, close_z}
 use Rattle.rates.specs.declared.YearlyRates.{YearlyRates}
-use Rattle.rates.specs.declared.RatesAnswer.{RatesAnswer}
-use Rattle.rates.specs.declared.RatesAnswer.TheVariants as Answer
 use Rattle.field.specs.Rated.{component_rates, no_time, rated}
-use Rattle.rates.specs.Rates.{RatesClose, rates_of, rates_says, rates_with, said, zero_divisor}
+use Rattle.rates.specs.Rates.{RatesClose, rates_of, rates_says, rates_with, zero_divisor}
 use Rattle.rates.proofs.Rated.{rated_accepted, rated_dated, rated_listed}
 
 -- ---- refusal 21, or the seven
@@ -70,6 +75,36 @@ module _ (a : Asked) (year day : ℤ) where
         let i : u ≡ component_rates a = answered_one u (component_rates a) (h ∙ rated_dated a year day v (sym e)) in
         m ∙ ap (λ (z : Xyz). rates_with z v) i ∙ behind (answered v) e
 
+-- ---- by the code's steps
+-- H, or 21
+pub divided_by : (b : Bool) (x h : Float) → cond b (Err ZeroDivisor) (Ok x) ≡ Ok h → (b ≡ false) × (h ≡ x)
+divided_by true x h e = cc
+divided_by false x h e = (refl, cc)
+
+pub not_divided : (b : Bool) (x : Float) (k : Refusal) → cond b (Err ZeroDivisor) (Ok x) ≡ Err k → (b ≡ true) × (k ≡ ZeroDivisor)
+not_divided true x k e = (refl, cc)
+not_divided false x k e = cc
+
+module _ (p : Place) (s : CoefficientSet) (year day : ℤ) (v : GeomagneticField) (f : answered v ≡ field_says (asked_of p s) year day) where
+  abbrev asks : Asked
+  asks = asked_of p s
+
+  -- the rate lists in the place of the coefficients, and again as rates, with no time passed: nothing is refused
+  pub rated_xyz : (l : Lists) → ◌≡◌ {A = Lists} l (record { g = s.lists.g_dot; h = s.lists.h_dot; g_dot = s.lists.g_dot; h_dot = s.lists.h_dot }) → xyz_by uncapped_says p (of_bits binary32 0) l ≡ answered (component_rates asks)
+  unfolding rated no_time
+  rated_xyz l e =
+      let w = rated_accepted asks year day v (sym f) in
+      let g = rated_listed asks year day v (sym f) in
+      ap (λ (m : Lists). xyz_by uncapped_says p (of_bits binary32 0) m) e
+      ∙ xyz_answered p (no_time asks) (record { g = s.lists.g_dot; h = s.lists.h_dot; g_dot = s.lists.g_dot; h_dot = s.lists.h_dot }) w.height w.latitude w.longitude w.offset g.long
+
+  -- 21, where H is zero
+  pub no_divisor : eq (h_of v) (of_bits binary32 0) ≡ true → paper ZeroDivisor ≡ rates_says asks year day
+  no_divisor h = nothing_divides asks year day v f h
+
+  pub rates_by : (r : Xyz) → answered r ≡ answered (component_rates asks) → (q : Paper YearlyRates) → q ≡ rates_with r v → q ≡ rates_says asks year day
+  rates_by r e q m = m ∙ ap (λ (z : Xyz). rates_with z v) (answered_one r (component_rates asks) e) ∙ behind asks year day (answered v) f
+
 -- what stands behind an answer u: of what is said of the field, p, its record by w, whose H and F are not zero
 pub record Behind {A : Type 0} (p : Paper A) (w : A → GeomagneticField) (r : Xyz) (u : YearlyRates) : Type 0 where
   pub field : A
@@ -90,7 +125,7 @@ unfolding rates_says
 behind_answer a year day u h = behind_rates (field_says a year day) (λ v. v) (component_rates a) u h
 
 -- demand 3
-pub answer_close : (a : Asked) (year day : ℤ) (r : RatesAnswer) → said r ≡ rates_says a year day → (u : YearlyRates) → r ≡ Answer.Rates u → RatesClose a u
+pub answer_close : (a : Asked) (year day : ℤ) (r : Result YearlyRates Refusal) → said r ≡ rates_says a year day → (u : YearlyRates) → r ≡ Ok u → RatesClose a u
 unfolding rates_of rated
 answer_close a year day r h u e =
     let b = behind_answer a year day u (sym h ∙ ap said e) in
@@ -100,11 +135,10 @@ answer_close a year day r h u e =
     (record { x = close_x (rated a) (no_time a) w l; y = close_y (rated a) (no_time a) w l; z = close_z (rated a) (no_time a) w l })
 
 -- any two answers that the contract allows are equal
-pub rates_answer_one : (p : Paper YearlyRates) (r s : RatesAnswer) → said r ≡ p → said s ≡ p → r ≡ s
-rates_answer_one p r s e f = go r s (e ∙ sym f)
-  where
-    go : (r s : RatesAnswer) → said r ≡ said s → r ≡ s
-    go (Answer.Rates v) (Answer.Rates w) h = ap Answer.Rates (answered_one v w h)
-    go (Answer.Rates v) (Answer.Refused k) h = absurd (no_answer k v (sym h))
-    go (Answer.Refused k) (Answer.Rates v) h = absurd (no_answer k v h)
-    go (Answer.Refused k) (Answer.Refused l) h = ap Answer.Refused (paper_one k l h)
+pub rates_answer_one : (p : Paper YearlyRates) (r s : Result YearlyRates Refusal) → said r ≡ p → said s ≡ p → r ≡ s
+rates_answer_one p r s e f = said_one r s (e ∙ sym f)
+
+-- the same, of the result
+pub close_if : (a : Asked) (year day : ℤ) (r : Result YearlyRates Refusal) → said r ≡ rates_says a year day → IfOk r (RatesClose a)
+close_if a year day (Ok u) h = answer_close a year day (Ok u) h u refl
+close_if a year day (Err k) h = tt

@@ -1,4 +1,6 @@
 -- What every answer of the rates has: no rate is infinite; and 21 is due exactly where H is zero, since no other divisor is zero then. Assumes nothing.
+use Rattle.refusals.specs.declared.Refusal.{Refusal}
+use Rattle.std.specs.Prelude.{Ok, Err, IfOk, Result}
 use mathlib.Core.Path.{◌≡◌, refl, sym, ap, ◌∙◌, subst}
 use mathlib.Core.Bool.{Bool, true, false, ◌||◌}
 use Prim.Native.Nat.{ℕ, ◌+◌, ◌*◌, ◌^◌, ◌≤◌, ◌<◌}
@@ -11,7 +13,7 @@ use Rattle.exact.specs.Exact.{own}
 use Rattle.exact.proofs.Ranks.{Leaf}
 use Rattle.exact.proofs.Near.{finite_is}
 use Rattle.exact.proofs.Units.{ONE, In, in_most, in_units_of, one_number}
-use Rattle.refusals.specs.Paper.{answered}
+use Rattle.refusals.specs.Paper.{answered, said}
 use Rattle.models.specs.Epochs.{epoch_offset, epoch_year_of}
 use Rattle.models.specs.Errors.{error_says}
 use Rattle.synthesis.specs.declared.Xyz.{Xyz}
@@ -21,10 +23,8 @@ use Rattle.strengths.proofs.StrengthSizes.{components, f_most, h_most}
 use Rattle.field.specs.Field.{Asked, field_says, record_of, strengths_of}
 use Rattle.field.proofs.Ceiling.{field_usable}
 use Rattle.rates.specs.declared.YearlyRates.{YearlyRates}
-use Rattle.rates.specs.declared.RatesAnswer.{RatesAnswer}
-use Rattle.rates.specs.declared.RatesAnswer.TheVariants as Answer
 use Rattle.field.specs.Rated.{component_rates}
-use Rattle.rates.specs.Rates.{AllFinite, rates_of, rates_says, said, zero_divisor}
+use Rattle.rates.specs.Rates.{AllFinite, rates_of, rates_says, zero_divisor}
 use Rattle.rates.proofs.Rated.{of_field, rated_accepted, rated_listed}
 use Rattle.rates.proofs.Answers.{behind_answer}
 use Rattle.rates.proofs.Divisors.{Rooted, Squared, aa, in_root, not_zero, root_large, root_most, rooted, square_above, square_in}
@@ -144,5 +144,9 @@ all_finite a year day u h =
     let l = rates_slow a (rated_accepted a year day b.field b.is_field) (rated_listed a year day b.field b.is_field) in
     subst (λ (q : YearlyRates). AllFinite q) b.is (seven_finite b.field s (component_rates a) l b.divides)
 
-pub answer_finite : (a : Asked) (year day : ℤ) (r : RatesAnswer) → said r ≡ rates_says a year day → (u : YearlyRates) → r ≡ Answer.Rates u → AllFinite u
+pub answer_finite : (a : Asked) (year day : ℤ) (r : Result YearlyRates Refusal) → said r ≡ rates_says a year day → (u : YearlyRates) → r ≡ Ok u → AllFinite u
 answer_finite a year day r h u e = all_finite a year day u (sym h ∙ ap said e)
+
+pub finite_if : (a : Asked) (year day : ℤ) (r : Result YearlyRates Refusal) → said r ≡ rates_says a year day → IfOk r AllFinite
+finite_if a year day (Ok u) h = answer_finite a year day (Ok u) h u refl
+finite_if a year day (Err k) h = tt

@@ -1,12 +1,13 @@
 -- The ways to an answer of the rates in the IGRF profile, that its X, Y and Z are close to the exact rates, and that no rate is infinite. Assumes nothing.
-use mathlib.Core.Path.{◌≡◌, sym, ap, subst, ◌∙◌}
+use Rattle.std.specs.Prelude.{Ok, Err, IfOk, Result}
+use mathlib.Core.Path.{◌≡◌, refl, sym, ap, subst, ◌∙◌}
 use mathlib.Core.Bool.{Bool, true, false}
 use Prim.Native.Nat.{ℕ}
 use lib.ListN.{length}
 use lib.IntN.{ℤ}
 use lib.Dec.{T}
 use lib.Ieee.{binary32, eq, fits, of_bits}
-use Rattle.refusals.specs.Paper.{Paper, after, answered, paper}
+use Rattle.refusals.specs.Paper.{Paper, after, answered, paper, said}
 use Rattle.refusals.specs.declared.Refusal.{Refusal}
 use Rattle.refusals.specs.declared.Refusal.TheVariants.{ZeroDivisor}
 use Rattle.refusals.proofs.Laws.{answered_one, no_answer}
@@ -33,10 +34,8 @@ use Rattle.igrf.specs.Igrf.{Profile, RateClose, chosen, early, igrf_says, mixed,
 use Rattle.igrf.proofs.Laws.{Met, behind, late_accepted, late_listed, met_rates_close, rates_answered, rates_close}
 use Rattle.igrf.proofs.Usable.{igrf_usable}
 use Rattle.rates.specs.declared.YearlyRates.{YearlyRates}
-use Rattle.rates.specs.declared.RatesAnswer.{RatesAnswer}
-use Rattle.rates.specs.declared.RatesAnswer.TheVariants as Answer
 use Rattle.rates.specs.Profile.{igrf_rates_says}
-use Rattle.rates.specs.Rates.{AllFinite, rates_of, rates_with, said, zero_divisor}
+use Rattle.rates.specs.Rates.{AllFinite, rates_of, rates_with, zero_divisor}
 use Rattle.rates.proofs.Answers.{Behind, behind_rates, no_h}
 use Rattle.rates.proofs.Ceiling.{Slow, east_most, passed_reach, rates_slow, turned_most, x_fits, y_fits, z_fits}
 use Rattle.rates.proofs.Laws.{Sound, seven_finite, zero_by_h}
@@ -138,8 +137,24 @@ module _ (a : Profile) (year day : ℤ) where
       let m = (behind false a year day b.field b.is_field).0 in
       subst (λ (z : YearlyRates). AllFinite z) b.is (seven_finite (shown b.field) (sound b.field b.is_field) found (met_slow a (epoch_offset year day) (early year) m) b.divides)
 
-  pub answer_close : (r : RatesAnswer) → said r ≡ igrf_rates_says a year day → (u : YearlyRates) → r ≡ Answer.Rates u → RateClose a (early year) u.x u.y u.z
+  pub answer_close : (r : Result YearlyRates Refusal) → said r ≡ igrf_rates_says a year day → (u : YearlyRates) → r ≡ Ok u → RateClose a (early year) u.x u.y u.z
   answer_close r h u e = close u (sym h ∙ ap said e)
 
-  pub answer_finite : (r : RatesAnswer) → said r ≡ igrf_rates_says a year day → (u : YearlyRates) → r ≡ Answer.Rates u → AllFinite u
+  pub answer_finite : (r : Result YearlyRates Refusal) → said r ≡ igrf_rates_says a year day → (u : YearlyRates) → r ≡ Ok u → AllFinite u
   answer_finite r h u e = finite u (sym h ∙ ap said e)
+
+  -- the same, of the result
+  pub close_if : (r : Result YearlyRates Refusal) → said r ≡ igrf_rates_says a year day → IfOk r (λ u. RateClose a (early year) u.x u.y u.z)
+  close_if (Ok u) h = answer_close (Ok u) h u refl
+  close_if (Err k) h = tt
+
+  pub finite_if : (r : Result YearlyRates Refusal) → said r ≡ igrf_rates_says a year day → IfOk r AllFinite
+  finite_if (Ok u) h = answer_finite (Ok u) h u refl
+  finite_if (Err k) h = tt
+
+  -- the rates, once X, Y and Z are answered with
+  pub rates_by : (v : Xyz) → answered v ≡ igrf_says a year day → (r : Xyz) → answered r ≡ rate_says a year day → (q : Paper YearlyRates) → q ≡ rates_with r (shown v) → q ≡ igrf_rates_says a year day
+  rates_by v e r i q m = rates_shown v e (shown v) refl r i q m
+
+  pub no_divisor : (v : Xyz) → answered v ≡ igrf_says a year day → eq (h_of (shown v)) (of_bits binary32 0) ≡ true → paper ZeroDivisor ≡ igrf_rates_says a year day
+  no_divisor v e h = nothing_divides v e (shown v) refl h

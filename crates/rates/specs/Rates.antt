@@ -1,6 +1,7 @@
 -- The yearly rates (document 02, Wish 7; the Rust crate, lib.rs, the parts that are built for its tests alone): those of X, Y and Z, those of declination, inclination, H and F that follow
 -- from them, the refusals, and the exact rates that the first three are near. Definitions only.
-use Rattle.std.specs.Prelude.{Bool, ◌||◌, not, T, ℤ, Float}
+use Rattle.refusals.specs.declared.Refusal.{Refusal}
+use Rattle.std.specs.Prelude.{Ok, Err, Result, Bool, ◌||◌, not, T, ℤ, Float}
 use Rattle.std.specs.Float.{binary32}
 use Rattle.std.specs.Float.Ieee.{of_bits, add, sub, mul, div, eq}
 use Rattle.std.specs.Float.Ieee.Scale.{finite}
@@ -14,8 +15,6 @@ use Rattle.strengths.specs.Strengths.{h_of, f_of}
 use Rattle.field.specs.Field.{Asked, field_x, field_y, field_z, field_says}
 use Rattle.field.specs.Rated.{component_rates, no_time, rated}
 use Rattle.rates.specs.declared.YearlyRates.{YearlyRates}
-use Rattle.rates.specs.declared.RatesAnswer.{RatesAnswer}
-use Rattle.rates.specs.declared.RatesAnswer.TheVariants as Answer
 
 -- ---- the four that follow, of a field v of strengths h and f whose X, Y and Z have the rates r (declination_rate, inclination_rate, h_rate, f_rate)
 -- the f32 57.29578: how many degrees a radian has
@@ -67,11 +66,6 @@ rates_with r v = unless (not (zero_divisor v)) (paper ZeroDivisor) (answered (ra
 -- Field's refusals in Field's order, then 21, then the rates
 unfoldable pub rates_says : Asked → (year day : ℤ) → Paper YearlyRates
 rates_says a year day = after (field_says a year day) (rates_with (component_rates a))
-
--- the paper's number and values of each case of the answer
-abbrev pub said : RatesAnswer → Paper YearlyRates
-said (Answer.Rates v) = answered v
-said (Answer.Refused k) = paper k
 
 -- demand 3: the rates of X, Y and Z within the promised distance of the exact sum of the rates, with the sizes as its majorant
 pub record RatesClose (a : Asked) (v : YearlyRates) : Type 0 where

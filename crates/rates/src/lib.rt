@@ -1,21 +1,20 @@
 // The yearly rates: how X, Y, Z, declination, inclination, H and F change in a year.
 #![tactic(auto)]
 
-ghost use Rattle.std.specs.Prelude.{◌≡◌, false};
+ghost use Rattle.std.specs.Prelude.{◌≡◌, IfOk, cond, false, Ok, Err};
 ghost use Rattle.std.specs.Float.{binary32};
 ghost use Rattle.std.specs.Float.Ieee.{eq, of_bits};
-ghost use Rattle.geocentric.specs.Geo.{ratio_to};
-ghost use Rattle.synthesis.specs.Sum as sums;
-ghost use Rattle.synthesis.specs.Sum.{lent, uncapped_says};
+ghost use Rattle.refusals.specs.Paper.{said};
+ghost use Rattle.refusals.specs.declared.Refusal.TheVariants.{ZeroDivisor};
 ghost use Rattle.strengths.specs.Strengths.{h_of};
-ghost use Rattle.field.specs.Field.{asked};
-ghost use Rattle.rates.specs.Rates.{AllFinite, RatesClose, declination_rate, f_rate, h_rate_of, inclination_rate, rates_says, rates_with, said, to_degrees};
+ghost use Rattle.field.specs.Field.{asked_of};
+ghost use Rattle.rates.specs.Rates.{AllFinite, RatesClose, declination_rate, f_rate, h_rate_of, inclination_rate, rates_says, rates_with, to_degrees};
 
-use field::{FieldAnswer, Latitude, turn};
-use geocentric::{Geocentric, geodetic_to_geocentric, radius_ratio};
+use field::{Place, xyz_uncapped};
+use lists::CoefficientSet;
 use refusals::{Day, Refusal};
 use strengths::GeomagneticField;
-use synthesis::{Colatitude, Longitude, SumAnswer, Xyz, sum_uncapped};
+use synthesis::Xyz;
 
 mod profile;
 
@@ -36,58 +35,62 @@ pub struct YearlyRates {
     pub f: f32,
 }
 
-#[derive(Clone, Copy)]
-pub enum RatesAnswer {
-    Rates(YearlyRates),
-    Refused(Refusal),
-}
-
 fn to_degrees(x: f32) -> f32
     ensures { result ≡ to_degrees x }
 {
     x * DEGREES_IN_RADIAN
 }
 
+#[tactic(auto, unfolding(crate::specs::Rates::h_rate_of))]
 fn h_rate(h: f32, v: GeomagneticField, r: Xyz) -> f32
     ensures { result ≡ h_rate_of h v r }
 {
     (v.x * r.x + v.y * r.y) / h
 }
 
+#[tactic(auto, unfolding(crate::specs::Rates::f_rate))]
 fn f_rate(f: f32, v: GeomagneticField, r: Xyz) -> f32
     ensures { result ≡ f_rate f v r }
 {
     (v.x * r.x + v.y * r.y + v.z * r.z) / f
 }
 
+#[tactic(auto, unfolding(crate::specs::Rates::declination_rate))]
 fn declination_rate(h: f32, v: GeomagneticField, r: Xyz) -> f32
     ensures { result ≡ declination_rate h v r }
 {
     to_degrees((r.y * v.x - v.y * r.x) / (h * h))
 }
 
+#[tactic(auto, unfolding(crate::specs::Rates::inclination_rate))]
 fn inclination_rate(h: f32, f: f32, v: GeomagneticField, r: Xyz) -> f32
     ensures { result ≡ inclination_rate h f v r }
 {
     to_degrees((r.z * h - v.z * h_rate(h, v, r)) / (f * f))
 }
 
-fn horizontal(v: GeomagneticField) -> f32
-    ensures { result ≡ h_of v }
+// H, by which rates are divided, or refusal 21.
+#[tactic(auto, unfolding(strengths::specs::Strengths::h_of))]
+fn divisor(v: GeomagneticField) -> Result<f32, Refusal>
+    ensures { result ≡ cond (eq (h_of v) (of_bits binary32 0)) (Err ZeroDivisor) (Ok (h_of v)) }
 {
-    roots::sqrt(v.x * v.x + v.y * v.y)
+    let h = roots::sqrt(v.x * v.x + v.y * v.y);
+    if h == 0.0 {
+        return Err(Refusal::ZeroDivisor);
+    }
+    Ok(h)
 }
 
 // The rates of a field v whose H is known and not zero, and whose X, Y and Z have the rates r.
-fn rates_with(v: GeomagneticField, h: f32, r: Xyz) -> RatesAnswer
+fn rates_with(v: GeomagneticField, h: f32, r: Xyz) -> Result<YearlyRates, Refusal>
     requires { (h ≡ h_of v) × (eq h (of_bits binary32 0) ≡ false) }
     ensures { said result ≡ rates_with r v }
 {
     let f = roots::sqrt(h * h + v.z * v.z);
     if f == 0.0 {
-        return RatesAnswer::Refused(Refusal::ZeroDivisor);
+        return Err(Refusal::ZeroDivisor);
     }
-    RatesAnswer::Rates(YearlyRates {
+    Ok(YearlyRates {
         x: r.x,
         y: r.y,
         z: r.z,
@@ -98,53 +101,19 @@ fn rates_with(v: GeomagneticField, h: f32, r: Xyz) -> RatesAnswer
     })
 }
 
-// X', Y and Z' of the rates: they stand in the place of the coefficients, and again as rates, with
-// offset 0, as the source has it. The caps are not looked at: Field does that.
-fn rate_sum(p: Geocentric, longitude: Longitude, g_dot: &[f32], h_dot: &[f32]) -> SumAnswer
-    ensures { sums.said result ≡ uncapped_says (lent p.cos_theta p.sin_theta longitude.sin longitude.cos (ratio_to p.r) (of_bits binary32 0) g_dot.now h_dot.now g_dot.now h_dot.now) }
-{
-    let theta = Colatitude {
-        cos: p.cos_theta,
-        sin: p.sin_theta,
-    };
-    let ratio = radius_ratio(p.r);
-    sum_uncapped(theta, longitude, ratio, 0.0, g_dot, h_dot, g_dot, h_dot)
-}
-
 // Field's refusals in their order, then 21, then the answer. `answer` is demands 1 and 2, `distance`
 // demand 3 of the rates of X, Y and Z; no rate is infinite; the lent slices keep what they hold.
-pub fn rates(
-    height: f32,
-    latitude: Latitude,
-    longitude: Longitude,
-    day: Day,
-    epoch_year: i32,
-    g: &[f32],
-    h: &[f32],
-    g_dot: &[f32],
-    h_dot: &[f32],
-) -> RatesAnswer
-    ensures answer { said result ≡ rates_says (asked height latitude.sin latitude.cos longitude.sin longitude.cos epoch_year g.now h.now g_dot.now h_dot.now) day.year day.day_of_year }
-    ensures distance { (v : YearlyRates) → result ≡ RatesAnswer.Rates v → RatesClose (asked height latitude.sin latitude.cos longitude.sin longitude.cos epoch_year g.now h.now g_dot.now h_dot.now) v }
-    ensures finite { (v : YearlyRates) → result ≡ RatesAnswer.Rates v → AllFinite v }
-    ensures kept { (g.exit.now ≡ g.entry.now) × (h.exit.now ≡ h.entry.now) × (g_dot.exit.now ≡ g_dot.entry.now) × (h_dot.exit.now ≡ h_dot.entry.now) }
+pub fn rates(place: Place, day: Day, set: CoefficientSet<'_>) -> Result<YearlyRates, Refusal>
+    ensures answer { said result ≡ rates_says (asked_of place set.entry) day.year day.day_of_year }
+    ensures distance { IfOk result (λ v. RatesClose (asked_of place set.entry) v) }
+    ensures finite { IfOk result AllFinite }
+    ensures kept { set.exit ≡ set.entry }
 {
-    match field::field(
-        height, latitude, longitude, day, epoch_year, g, h, g_dot, h_dot,
-    ) {
-        FieldAnswer::Refused(k) => RatesAnswer::Refused(k),
-        FieldAnswer::Field(v) => {
-            // H comes before the sums, so that its root is worked out beside them.
-            let strength = horizontal(v);
-            if strength == 0.0 {
-                return RatesAnswer::Refused(Refusal::ZeroDivisor);
-            }
-            let p = geodetic_to_geocentric(height, latitude.sin, latitude.cos);
-            // Nothing is refused here that Field has not refused.
-            match rate_sum(p, longitude, g_dot, h_dot) {
-                SumAnswer::Refused(k) => RatesAnswer::Refused(k),
-                SumAnswer::Sum(r) => rates_with(v, strength, turn(r, p, latitude)),
-            }
-        }
-    }
+    let v = field::field(place, day, set)?;
+    // H comes before the sums, so that its root is worked out beside them.
+    let h = divisor(v)?;
+    // The rates in the place of the coefficients, and again as rates, with no time passed, as the source
+    // has it. Nothing is refused here that Field has not refused.
+    let r = xyz_uncapped(place, 0.0, set.lists.rated())?;
+    rates_with(v, h, r)
 }

@@ -11,8 +11,9 @@ use lib.Ieee.{Float, nan}
 use denote.Enum.Declared.{tag_of}
 use Rattle.refusals.specs.declared.Day.{Day}
 use Rattle.refusals.specs.declared.Refusal.{Refusal}
-use Rattle.refusals.specs.declared.Verdict.{Verdict}
-use Rattle.refusals.specs.Paper.{Line, carries, line, Paper, answered, refused, paper, unless, told, check, both}
+use Rattle.refusals.specs.declared.ListName.{ListName}
+use Rattle.std.specs.Prelude.{Ok, Err, Result}
+use Rattle.refusals.specs.Paper.{Line, carries, line, Paper, answered, refused, paper, unless, told, check, both, Verdict, accepted, said, list_number}
 use Rattle.refusals.specs.contracts.Refusal.{the_type}
 
 -- ---- the number and the values leave one refusal
@@ -26,6 +27,20 @@ day : Line → ℕ → ℕ → Day
 unfolding whole
 day v i j = record { year = whole v i; day_of_year = whole v j }
 
+-- the list that has the number n
+list_numbered : ℕ → ListName
+list_numbered n =
+    cond (eqb n 0) ListName.G (cond (eqb n 1) ListName.H (cond (eqb n 2) ListName.GDot (cond (eqb n 3) ListName.HDot (cond (eqb n 4) ListName.SecondG ListName.SecondH))))
+
+list_back : (l : ListName) → list_numbered (list_number l) ≡ l
+unfolding list_numbered
+list_back ListName.G = refl
+list_back ListName.H = refl
+list_back ListName.GDot = refl
+list_back ListName.HDot = refl
+list_back ListName.SecondG = refl
+list_back ListName.SecondH = refl
+
 -- each case, with the values of a line
 cases : Line → List Refusal
 unfolding float whole day
@@ -36,7 +51,7 @@ cases v =
     Refusal.DayOfYear ∷
     Refusal.EpochYear (day v 0 1) (day v 2 3) ∷
     Refusal.Length ∷
-    Refusal.Coefficient (nat_abs (whole v 0)) (nat_abs (whole v 1)) ∷
+    Refusal.Coefficient (list_numbered (nat_abs (whole v 0))) (nat_abs (whole v 1)) ∷
     Refusal.OtherEpoch (whole v 0) (whole v 1) ∷
     Refusal.Colatitude ∷
     Refusal.Ratio ∷
@@ -68,7 +83,7 @@ read_back Refusal.Longitude = refl
 read_back Refusal.DayOfYear = refl
 read_back (Refusal.EpochYear a b) = refl
 read_back Refusal.Length = refl
-read_back (Refusal.Coefficient l i) = refl
+read_back (Refusal.Coefficient l i) = ap (λ (m : ListName). Refusal.Coefficient m i) (list_back l)
 read_back (Refusal.OtherEpoch d s) = refl
 read_back Refusal.Colatitude = refl
 read_back Refusal.Ratio = refl
@@ -148,6 +163,13 @@ no_refusal {A} e = subst (λ (p : Paper A). IsAnswer p) e tt
 pub answered_one : {A : Type 0} (a b : A) → answered a ≡ answered b → a ≡ b
 answered_one a b e = cc
 
+-- what is said leaves one result
+pub said_one : {A : Type 0} (x y : Result A Refusal) → said x ≡ said y → x ≡ y
+said_one (Ok a) (Ok b) e = ap Ok (answered_one a b e)
+said_one (Ok a) (Err k) e = absurd (no_answer k a (sym e))
+said_one (Err k) (Ok a) e = absurd (no_answer k a e)
+said_one (Err k) (Err l) e = ap Err (paper_one k l e)
+
 -- an answer that stands behind a test: the test passed
 pub passed : {A : Type 0} (b : Bool) (k : Refusal) (p : Paper A) (a : A) → unless b (paper k) p ≡ answered a → (b ≡ true) × (p ≡ answered a)
 passed true k p a e = (refl, e)
@@ -155,20 +177,20 @@ passed false k p a e = absurd (no_answer k a e)
 
 -- ---- what a verdict leaves
 -- a group of checks that refuses nothing: each test passed
-pub check_accepted : (b : Bool) (k : Refusal) (v : Verdict) → check b k v ≡ Verdict.Accepted → (b ≡ true) × (v ≡ Verdict.Accepted)
+pub check_accepted : (b : Bool) (k : Refusal) (v : Verdict) → check b k v ≡ accepted → (b ≡ true) × (v ≡ accepted)
 check_accepted true k v e = (refl, e)
 check_accepted false k v e = absurd (let z : ◌≡◌ {A = ℕ} 0 1 = cc in omega arith)
 
-pub both_accepted : (u v : Verdict) → both u v ≡ Verdict.Accepted → (u ≡ Verdict.Accepted) × (v ≡ Verdict.Accepted)
-both_accepted Verdict.Accepted v e = (refl, e)
-both_accepted (Verdict.Refused k) v e = absurd (let z : ◌≡◌ {A = ℕ} 0 1 = cc in omega arith)
+pub both_accepted : (u v : Verdict) → both u v ≡ accepted → (u ≡ accepted) × (v ≡ accepted)
+both_accepted (Ok _) v e = (refl, e)
+both_accepted (Err k) v e = absurd (let z : ◌≡◌ {A = ℕ} 0 1 = cc in omega arith)
 
 -- an answer behind a verdict: nothing was refused
-pub told_answered : {A : Type 0} (u : Verdict) (p : Paper A) (a : A) → told u p ≡ answered a → (u ≡ Verdict.Accepted) × (p ≡ answered a)
-told_answered Verdict.Accepted p a e = (refl, e)
-told_answered (Verdict.Refused k) p a e = absurd (no_answer k a e)
+pub told_answered : {A : Type 0} (u : Verdict) (p : Paper A) (a : A) → told u p ≡ answered a → (u ≡ accepted) × (p ≡ answered a)
+told_answered (Ok _) p a e = (refl, e)
+told_answered (Err k) p a e = absurd (no_answer k a e)
 
 -- a refusal before an answer is the same refusal before anything else
 pub told_carry : {A B : Type 0} (u : Verdict) (k : Refusal) (a : A) (p : Paper B) → paper k ≡ told u (answered a) → paper k ≡ told u p
-told_carry Verdict.Accepted k a p e = absurd (no_answer k a e)
-told_carry (Verdict.Refused j) k a p e = ap paper (paper_one k j e)
+told_carry (Ok _) k a p e = absurd (no_answer k a e)
+told_carry (Err j) k a p e = ap paper (paper_one k j e)

@@ -3,8 +3,8 @@ use mathlib.Core.Path.{◌≡◌, refl, sym}
 use mathlib.Core.Bool.{Bool, true, false, true≢false}
 use Prim.Native.Nat.{ℕ}
 use Rattle.refusals.specs.declared.Refusal.{Refusal}
-use Rattle.refusals.specs.declared.Verdict.{Verdict}
-use Rattle.refusals.specs.Paper.{line, Paper, answered, refused, paper, unless, after, told, check, both}
+use Rattle.std.specs.Prelude.{Ok, Err}
+use Rattle.refusals.specs.Paper.{line, Paper, answered, refused, paper, unless, after, told, check, both, Verdict}
 
 -- k has another number than n
 abbrev pub Other : ℕ → Refusal → Type 0
@@ -16,8 +16,8 @@ Never n (answered a) = Prim.Unit
 Never n (refused m f z) = m ≡ n → ⊥
 
 abbrev pub Passes : ℕ → Verdict → Type 0
-Passes n Verdict.Accepted = Prim.Unit
-Passes n (Verdict.Refused k) = Other n k
+Passes n (Ok _) = Prim.Unit
+Passes n (Err k) = Other n k
 
 module _ {A : Type 0} (n : ℕ) where
   pub never_unless : (b : Bool) (k : Refusal) (p : Paper A) → Other n k → Never n p → Never n (unless b (paper k) p)
@@ -25,8 +25,8 @@ module _ {A : Type 0} (n : ℕ) where
   never_unless false k p o h = o
 
   pub never_told : (u : Verdict) (p : Paper A) → Passes n u → Never n p → Never n (told u p)
-  never_told Verdict.Accepted p o h = h
-  never_told (Verdict.Refused k) p o h = o
+  never_told (Ok _) p o h = h
+  never_told (Err k) p o h = o
 
   pub never_after : {B : Type 0} (p : Paper B) (f : B → Paper A) → Never n p → ((b : B) → p ≡ answered b → Never n (f b)) → Never n (after p f)
   never_after (answered b) f h g = g b refl
@@ -43,5 +43,5 @@ module _ (n : ℕ) where
   passes_true false k v e h = absurd (true≢false (sym e))
 
   pub passes_both : (u v : Verdict) → Passes n u → Passes n v → Passes n (both u v)
-  passes_both Verdict.Accepted v o h = h
-  passes_both (Verdict.Refused k) v o h = o
+  passes_both (Ok _) v o h = h
+  passes_both (Err k) v o h = o

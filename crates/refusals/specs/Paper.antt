@@ -1,7 +1,7 @@
 -- The paper's number and values of every answer. Document 01, "Refusal numbers", and document 02. Definitions only.
-use Rattle.std.specs.Prelude.{Bool, true, false, List, [], ◌∷◌, ℕ, ℤ, pos, Float}
+use Rattle.std.specs.Prelude.{Bool, true, false, List, [], ◌∷◌, ℕ, ℤ, pos, Float, Result, Ok, Err}
 use Rattle.refusals.specs.declared.Refusal.{Refusal}
-use Rattle.refusals.specs.declared.Verdict.{Verdict}
+use Rattle.refusals.specs.declared.ListName.{ListName}
 
 -- a line of the documents' table: a refusal's number, the floats and the whole numbers that it carries
 pub record Line : Type 0 where
@@ -12,6 +12,15 @@ pub record Line : Type 0 where
 abbrev pub carries : ℕ → List Float → List ℤ → Line
 carries n f z = record { number = n; floats = f; wholes = z }
 
+-- each list's number
+abbrev pub list_number : ListName → ℕ
+list_number ListName.G = 0
+list_number ListName.H = 1
+list_number ListName.GDot = 2
+list_number ListName.HDot = 3
+list_number ListName.SecondG = 4
+list_number ListName.SecondH = 5
+
 -- each refusal's line
 abbrev pub line : Refusal → Line
 line (Refusal.Height low high) = carries 1 (low ∷ high ∷ []) []
@@ -20,7 +29,7 @@ line Refusal.Longitude = carries 3 [] []
 line Refusal.DayOfYear = carries 4 [] []
 line (Refusal.EpochYear a b) = carries 5 [] (a.year ∷ a.day_of_year ∷ b.year ∷ b.day_of_year ∷ [])
 line Refusal.Length = carries 6 [] []
-line (Refusal.Coefficient l i) = carries 7 [] (pos l ∷ pos i ∷ [])
+line (Refusal.Coefficient l i) = carries 7 [] (pos (list_number l) ∷ pos i ∷ [])
 line (Refusal.OtherEpoch d s) = carries 8 [] (d ∷ s ∷ [])
 line Refusal.Colatitude = carries 9 [] []
 line Refusal.Ratio = carries 10 [] []
@@ -57,17 +66,29 @@ abbrev pub after : {A B : Type 0} → Paper A → (A → Paper B) → Paper B
 after (answered a) f = f a
 after (refused n x z) f = refused n x z
 
+-- what a call's result says: its answer, or the refusal's line
+abbrev pub said : {A : Type 0} → Result A Refusal → Paper A
+said (Ok a) = answered a
+said (Err k) = paper k
+
+-- what a group of checks finds: nothing, or the first refusal
+abbrev pub Verdict : Type 0
+Verdict = Result Unit Refusal
+
+abbrev pub accepted : Verdict
+accepted = Ok tt
+
 -- a verdict, before what follows it
 abbrev pub told : {A : Type 0} → Verdict → Paper A → Paper A
-told Verdict.Accepted p = p
-told (Verdict.Refused k) p = paper k
+told (Ok _) p = p
+told (Err k) p = paper k
 
 -- a test of a group of checks: what follows it, or the refusal
 abbrev pub check : Bool → Refusal → Verdict → Verdict
 check true k v = v
-check false k v = Verdict.Refused k
+check false k v = Err k
 
 -- one group of checks, then another
 abbrev pub both : Verdict → Verdict → Verdict
-both Verdict.Accepted v = v
-both (Verdict.Refused k) v = Verdict.Refused k
+both (Ok _) v = v
+both (Err k) v = Err k

@@ -3,13 +3,40 @@
 #![tactic(auto)]
 
 ghost use Rattle.std.specs.Prelude.{◌≡◌};
-ghost use Rattle.refusals.specs.Paper.{line};
+ghost use Rattle.refusals.specs.Paper.{line, list_number};
 
 // A day: a year and the day of that year.
 #[derive(Clone, Copy)]
 pub struct Day {
     pub year: i32,
     pub day_of_year: i32,
+}
+
+// The lent lists, those of a set and the two of a second set that are read beside it.
+#[derive(Clone, Copy, PartialEq, Eq)]
+pub enum ListName {
+    G,
+    H,
+    GDot,
+    HDot,
+    SecondG,
+    SecondH,
+}
+
+impl ListName {
+    // The list's number in refusal 7.
+    pub fn number(self) -> u8
+        ensures { result ≡ list_number self }
+    {
+        match self {
+            ListName::G => 0,
+            ListName::H => 1,
+            ListName::GDot => 2,
+            ListName::HDot => 3,
+            ListName::SecondG => 4,
+            ListName::SecondH => 5,
+        }
+    }
 }
 
 #[derive(Clone, Copy)]
@@ -26,8 +53,8 @@ pub enum Refusal {
     EpochYear { first: Day, last: Day },
     // 6
     Length,
-    // 7: the list (0 g, 1 h, 2 g_dot, 3 h_dot) and the index.
-    Coefficient { list: u8, index: usize },
+    // 7: the list and the index.
+    Coefficient { list: ListName, index: usize },
     // 8: the epoch years of the day and of the set.
     OtherEpoch { of_day: i32, of_set: i32 },
     // 9
@@ -62,40 +89,38 @@ pub enum Refusal {
     Degree,
 }
 
-// A refusal's number.
-pub fn number(k: Refusal) -> u32
-    ensures { result ≡ (line k).number }
-{
-    match k {
-        Refusal::Height { .. } => 1,
-        Refusal::Latitude => 2,
-        Refusal::Longitude => 3,
-        Refusal::DayOfYear => 4,
-        Refusal::EpochYear { .. } => 5,
-        Refusal::Length => 6,
-        Refusal::Coefficient { .. } => 7,
-        Refusal::OtherEpoch { .. } => 8,
-        Refusal::Colatitude => 9,
-        Refusal::Ratio => 10,
-        Refusal::Offset => 11,
-        Refusal::Unusable => 12,
-        Refusal::Malformed { .. } => 13,
-        Refusal::OutOfOrder { .. } => 14,
-        Refusal::NoErrorRecord => 15,
-        Refusal::Angle => 16,
-        Refusal::WrongTag { .. } => 17,
-        Refusal::WrongLength { .. } => 18,
-        Refusal::WrongEnd { .. } => 19,
-        Refusal::NoRoom => 20,
-        Refusal::ZeroDivisor => 21,
-        Refusal::RateAboveEight => 22,
-        Refusal::Degree => 23,
+impl Refusal {
+    // A refusal's number.
+    pub fn number(self) -> u32
+        ensures { result ≡ (line self).number }
+    {
+        match self {
+            Refusal::Height { .. } => 1,
+            Refusal::Latitude => 2,
+            Refusal::Longitude => 3,
+            Refusal::DayOfYear => 4,
+            Refusal::EpochYear { .. } => 5,
+            Refusal::Length => 6,
+            Refusal::Coefficient { .. } => 7,
+            Refusal::OtherEpoch { .. } => 8,
+            Refusal::Colatitude => 9,
+            Refusal::Ratio => 10,
+            Refusal::Offset => 11,
+            Refusal::Unusable => 12,
+            Refusal::Malformed { .. } => 13,
+            Refusal::OutOfOrder { .. } => 14,
+            Refusal::NoErrorRecord => 15,
+            Refusal::Angle => 16,
+            Refusal::WrongTag { .. } => 17,
+            Refusal::WrongLength { .. } => 18,
+            Refusal::WrongEnd { .. } => 19,
+            Refusal::NoRoom => 20,
+            Refusal::ZeroDivisor => 21,
+            Refusal::RateAboveEight => 22,
+            Refusal::Degree => 23,
+        }
     }
 }
 
-// What a group of checks finds.
-#[derive(Clone, Copy)]
-pub enum Verdict {
-    Accepted,
-    Refused(Refusal),
-}
+// What a group of checks finds: nothing, or the first refusal.
+pub type Verdict = Result<(), Refusal>;

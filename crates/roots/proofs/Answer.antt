@@ -9,12 +9,12 @@ use borrow.Author.Tests.{ltb-false, eq-eqb, ne_eqb}
 use lib.Ieee.{Float, nan, inf, fin, binary32, lt, le, eq, of_bits, up, down}
 use lib.Ieee.Fits.{up_pos}
 use Rattle.refusals.specs.declared.Refusal.TheVariants.{Unusable}
-use Rattle.refusals.specs.Paper.{answered, paper}
-use Rattle.refusals.proofs.Laws.{paper_one, no_answer, answered_one}
-use Rattle.roots.specs.declared.RootAnswer.{RootAnswer}
-use Rattle.roots.specs.declared.RootAnswer.TheVariants.{Root, Refused}
+use Rattle.std.specs.Prelude.{Result}
+use Rattle.refusals.specs.declared.Refusal.{Refusal}
+use Rattle.refusals.specs.Paper.{answered, paper, said}
+use Rattle.refusals.proofs.Laws.{said_one}
 use Rattle.roots.specs.Root.{sqrt_of, rootable}
-use Rattle.roots.specs.Answer.{said, root_says}
+use Rattle.roots.specs.Answer.{root_says}
 
 -- ---- the test
 at_least : (a b : ℕ) → a ≤ b → ltb a b || (eqb a b && true) ≡ true
@@ -57,11 +57,5 @@ unfolding root_says
 refusal_said x h = rw h
 
 -- ---- one answer
-pub root_answer_one : (x : Float) (r s : RootAnswer) → said r ≡ root_says x → said s ≡ root_says x → r ≡ s
-root_answer_one x r s p q = go r s (p ∙ sym q)
-  where
-    go : (r s : RootAnswer) → said r ≡ said s → r ≡ s
-    go (Root a) (Root b) e = let h : a ≡ b = answered_one a b e in cc
-    go (Root a) (Refused k) e = absurd (no_answer k a (sym e))
-    go (Refused k) (Root a) e = absurd (no_answer k a e)
-    go (Refused k) (Refused l) e = let h : k ≡ l = paper_one k l e in cc
+pub root_answer_one : (x : Float) (r s : Result Float Refusal) → said r ≡ root_says x → said s ≡ root_says x → r ≡ s
+root_answer_one x r s p q = said_one r s (p ∙ sym q)

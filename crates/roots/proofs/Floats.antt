@@ -4,6 +4,7 @@ use Prim.Native.Nat.{ℕ, zero, suc, ◌+◌, ◌-◌, ◌*◌, ◌/◌, ◌%◌
 use native.Mathlib.Nat.{div-eq_of_eq-mul_left, mul-one, mul_assoc, mul-pos}
 use native.Mathlib.Omega.{arith}
 use mathlib.Core.Bool.{true, false, not}
+use mathlib.Core.Logic.{◌⊎◌, ⊎_elim}
 use lib.Dec.{T, eqb→eq, lt→ltb}
 use lib.Pow.{pow_pos, pow-add}
 use lib.Ieee.{Float, nan, inf, fin, binary32, odd, size, of_bits, to_bits, fits, is_nan, nan_bits}
@@ -99,19 +100,22 @@ module _ (x : Float) (held : T (fits binary32 x)) where
   pub at_top : T (rootable x) → 0x7f80_0000 ≤ to_bits binary32 x → x ≡ sqrt_of x
   at_top p h = keeps x p (λ k. not_positive (to_bits binary32 x) h (subst (λ (y : Float). T (positive y)) (sym (float_back x held)) k))
 
+  -- the two tests of one
+  pub of_own : T (rootable x) → (to_bits binary32 x ≡ 0) ⊎ ((to_bits binary32 x ≡ 0 → ⊥) × (0x7f80_0000 ≤ to_bits binary32 x)) → x ≡ sqrt_of x
+  of_own p e = ⊎_elim (λ z. at_zero p z) (λ z. at_top p z.1) e
+
   -- a value by its written form
   pub value : (q j : ℕ) → of_bits binary32 (to_bits binary32 x) ≡ odd 24 false q j 149 → HasValue x false (q * 2 ^ j) (2 ^ 149)
   value q j e = subst (λ (y : Float). HasValue y false (q * 2 ^ j) (2 ^ 149)) (sym e ∙ float_back x held) (odd_sign 24 false q j 149)
 
-  pub at_small : (m f r : ℕ) → to_bits binary32 x / 2 ^ 23 ≡ 0 → (to_bits binary32 x ≡ 0 → ⊥) → Lifted (to_bits binary32 x % 2 ^ 23) m f → Packed m f r → of_bits binary32 r ≡ sqrt_of x
+  pub at_small : (m f r : ℕ) → to_bits binary32 x < 2 ^ 23 → (to_bits binary32 x ≡ 0 → ⊥) → Lifted (to_bits binary32 x) m f → Packed m f r → of_bits binary32 r ≡ sqrt_of x
   at_small m f r h p l k =
       let b = to_bits binary32 x in
-      let t : b % 2 ^ 23 ≡ b = omega arith in
-      let v : HasValue x false (b * 2 ^ 0) (2 ^ 149) = value b 0 (subnormal b (omega arith)) in
+      let v : HasValue x false (b * 2 ^ 0) (2 ^ 149) = value b 0 (subnormal b h) in
       let w : HasValue x false b (2 ^ 149) = rw mul-one at v in
-      root_of_lifted b m f (rw t at l) x r w (omega arith) k
+      root_of_lifted b m f l x r w (omega arith) k
 
-  pub at_normal : (r : ℕ) → (to_bits binary32 x / 2 ^ 23 ≡ 0 → ⊥) → to_bits binary32 x < 0x7f80_0000 → Packed (to_bits binary32 x % 2 ^ 23 + 2 ^ 23) (to_bits binary32 x / 2 ^ 23 + 64) r → of_bits binary32 r ≡ sqrt_of x
+  pub at_normal : (r : ℕ) → 2 ^ 23 ≤ to_bits binary32 x → to_bits binary32 x < 0x7f80_0000 → Packed (to_bits binary32 x % 2 ^ 23 + 2 ^ 23) (to_bits binary32 x / 2 ^ 23 + 64) r → of_bits binary32 r ≡ sqrt_of x
   at_normal r h t k =
       let b = to_bits binary32 x in
       let j = b / 2 ^ 23 - 1 in

@@ -1,30 +1,46 @@
 -- Products with powers of two. Assumes nothing.
 use mathlib.Core.Path.{◌≡◌, sym, ap, ◌∙◌}
-use Prim.Native.Nat.{ℕ, zero, suc, ◌+◌, ◌-◌, ◌*◌, ◌/◌, ◌^◌, ◌≤◌, ◌<◌}
-use native.Mathlib.Nat.{mul-le-mul_right, mul-le-mul_left, add-mul, mul_assoc, pow-succ', div-eq_of_eq-mul_left}
+use Prim.Native.Nat.{ℕ, suc, ◌+◌, ◌-◌, ◌*◌, ◌/◌, ◌%◌, ◌^◌, ◌≤◌, ◌<◌}
+use native.Mathlib.Nat.{mul-le-mul_right, mul-lt-mul_of_pos_right, add-mul, mul_assoc, mod-eq_of_lt, lt_of_lt_of_le, div-eq_of_eq-mul_left}
 use native.Mathlib.Omega.{arith}
 use lib.Pow.{pow_mono, pow_pos, pow-add}
+use lib.Count.{count_leading_zeros, leading_top}
+use lib.Dec.{lit≤}
 use lib.Ieee.{size}
 use lib.Ieee.Digits.{size-lt, size-le, size_reaches}
 use Rattle.roots.specs.Parts.{Lifted}
 
--- m * 2 ^ f is 2 ^ 65 at least, so a small m has a large f
-pub still_high : (t m f : ℕ) → 0 < t → m < 2 ^ 23 → t * 2 ^ 65 ≡ m * 2 ^ f → 42 < f
-still_high t m f p h e = go
+-- ---- t's leading digit brought to the 24th place: by as many places as zeros stand before it, of 32, less 8
+-- in the code's words
+abbrev pub up_by : ℕ → ℕ
+up_by t = count_leading_zeros 32 t - 8
+
+pub lifted_is : (t : ℕ) → 0 < t → t < 2 ^ 23 → (8 ≤ count_leading_zeros 32 t) × Lifted t (t * 2 ^ up_by t % 4294967296) (65 - up_by t)
+lifted_is t p h = go (leading_top 32 t p (omega arith))
   where
-    low : f ≤ 42 → ⊥
-    low l =
-        let a : m * 2 ^ f ≤ m * 2 ^ 42 = mul-le-mul_left m (pow_mono l) in
-        omega arith
-
-    go : 42 < f
-    go = omega (arith, low)
-
-pub one_up : (m f : ℕ) → 0 < f → m * 2 * 2 ^ (f - 1) ≡ m * 2 ^ f
-one_up m zero p = elim p [ ]
-one_up m (suc g) p =
-    let e : suc g - 1 ≡ g = omega arith in
-    rw e (mul_assoc m 2 (2 ^ g) ∙ ap (λ (x : ℕ). m * x) (sym (pow-succ' 2 g)))
+    go : (j : ℕ) × (count_leading_zeros 32 t + suc j ≡ 32) × (2 ^ j ≤ t) × (t < 2 ^ suc j) → (8 ≤ count_leading_zeros 32 t) × Lifted t (t * 2 ^ up_by t % 4294967296) (65 - up_by t)
+    go (j, e, l, u) =
+        let large : 23 ≤ j → ⊥ = λ m. (let a : 2 ^ 23 ≤ 2 ^ j = pow_mono m in omega arith) in
+        let few : j ≤ 22 = omega arith in
+        let k : up_by t ≡ 23 - j = omega arith in
+        let g : j + (23 - j) ≡ 23 = omega arith in
+        let i : suc j + (23 - j) ≡ 24 = omega arith in
+        let a : 2 ^ j * 2 ^ (23 - j) ≡ 2 ^ 23 = sym (pow-add 2 j (23 - j)) ∙ ap (λ (z : ℕ). 2 ^ z) g in
+        let b : 2 ^ suc j * 2 ^ (23 - j) ≡ 2 ^ 24 = sym (pow-add 2 (suc j) (23 - j)) ∙ ap (λ (z : ℕ). 2 ^ z) i in
+        let low : 2 ^ j * 2 ^ (23 - j) ≤ t * 2 ^ (23 - j) = mul-le-mul_right (2 ^ (23 - j)) l in
+        let high : t * 2 ^ (23 - j) < 2 ^ suc j * 2 ^ (23 - j) = mul-lt-mul_of_pos_right u (pow_pos (23 - j)) in
+        let most : t * 2 ^ (23 - j) < 2 ^ 24 = rw b at high in
+        let whole : t * 2 ^ up_by t % 4294967296 ≡ t * 2 ^ (23 - j) = ap (λ (z : ℕ). t * 2 ^ z % 4294967296) k ∙ mod-eq_of_lt (lt_of_lt_of_le most (lit≤ tt)) in
+        let f : (23 - j) + (65 - up_by t) ≡ 65 = omega arith in (
+          omega arith,
+          record {
+            least = omega arith;
+            most = rw whole most;
+            from = omega arith;
+            to = omega arith;
+            same = rw whole (ap (λ (z : ℕ). t * 2 ^ z) (sym f) ∙ ap (λ (z : ℕ). t * z) (pow-add 2 (23 - j) (65 - up_by t)) ∙ sym (mul_assoc t (2 ^ (23 - j)) (2 ^ (65 - up_by t))));
+          },
+        )
 
 -- ---- how many digits n has, for n * 2 ^ 65 ≡ m * 2 ^ f and m of 24 digits: f - 41
 module _ (n m g : ℕ) (least : 2 ^ 23 ≤ m) (most : m < 2 ^ 24) (same : n * 2 ^ 65 ≡ m * 2 ^ (g + 42)) where

@@ -2,14 +2,7 @@
 use Rattle.std.specs.Prelude.{Float}
 use Rattle.refusals.specs.declared.Refusal.TheVariants.{Unusable}
 use Rattle.refusals.specs.Paper.{Paper, answered, paper, unless}
-use Rattle.roots.specs.declared.RootAnswer.{RootAnswer}
-use Rattle.roots.specs.declared.RootAnswer.TheVariants.{Root, Refused}
 use Rattle.roots.specs.Root.{sqrt_of, rootable}
-
--- an answer as the paper has it
-abbrev pub said : RootAnswer → Paper Float
-said (Root r) = answered r
-said (Refused k) = paper k
 
 -- refusal 12 where there is no root, then the root
 unfoldable pub root_says : Float → Paper Float

@@ -1,5 +1,5 @@
 -- What the functions of `src/root.rt` promise each other. Definitions only; no entry's contract cites them.
-use Rattle.std.specs.Prelude.{ℕ, ◌+◌, ◌*◌, ◌/◌, ◌%◌, ◌^◌, ◌≤◌, ◌<◌, ◌≡◌, cond, eqb}
+use Rattle.std.specs.Prelude.{ℕ, ◌+◌, ◌*◌, ◌/◌, ◌%◌, ◌^◌, ◌≤◌, ◌<◌, ◌≡◌, if◌then◌else◌, ◌==◌}
 use Rattle.roots.specs.Root.{nearest_root}
 
 -- q is the whole number nearest to the root of n: q - 1/2 < √n < q + 1/2, each side squared. (n is whole, so it is never q * q + q + 1/4.) And q has 24 binary digits.
@@ -19,7 +19,7 @@ pub record Lifted (t m f : ℕ) : Type 0 where
 
 -- m with as many places after it that an even exponent is left and the root has 24 digits
 abbrev pub spread : ℕ → ℕ → ℕ
-spread m f = cond (eqb (f % 2) 0) (m * 2 ^ 24) (m * 2 ^ 23)
+spread m f = if f % 2 == 0 then m * 2 ^ 24 else m * 2 ^ 23
 
 -- the root's exponent, in units
 abbrev pub shift : ℕ → ℕ

@@ -1,11 +1,13 @@
-// The square root of an f32, correctly rounded. No call of a C library.
+// The square root of an f32, correctly rounded, over whole numbers. No call of a C library. (std's
+// `f32::sqrt` is the processor's own, whose word is taken for it; this one is proved.)
 #![tactic(auto)]
 
 mod root;
 
 ghost use Rattle.std.specs.Prelude.{◌≡◌};
 ghost use Rattle.roots.specs.Root.{sqrt_of};
-ghost use Rattle.roots.specs.Answer.{said, root_says};
+ghost use Rattle.refusals.specs.Paper.{said};
+ghost use Rattle.roots.specs.Answer.{root_says};
 
 use refusals::Refusal;
 
@@ -16,8 +18,7 @@ pub fn sqrt(x: f32) -> f32
     if root::has_root(x) {
         root::rounded_root(x)
     } else {
-        let zero = 0.0f32;
-        zero / zero
+        f32::NAN
     }
 }
 
@@ -32,20 +33,14 @@ pub fn sqrt_by_guess(x: f32, guess: f32) -> f32
     }
 }
 
-// What `square_root` answers.
-#[derive(Clone, Copy)]
-pub enum RootAnswer {
-    Root(f32),
-    Refused(Refusal),
-}
-
 // The root as a call of its own: a NaN and a number below zero are refused. -0 is not below zero.
-pub fn square_root(x: f32) -> RootAnswer
+#[tactic(auto, using(crate::proofs::Answer::root_said, crate::proofs::Answer::refusal_said))]
+pub fn square_root(x: f32) -> Result<f32, Refusal>
     ensures { said result ≡ root_says x }
 {
     if root::has_root(x) {
-        RootAnswer::Root(root::rounded_root(x))
+        Ok(root::rounded_root(x))
     } else {
-        RootAnswer::Refused(Refusal::Unusable)
+        Err(Refusal::Unusable)
     }
 }

@@ -1,180 +1,159 @@
 // A correctly rounded square root of an f32, over whole numbers.
-ghost use Rattle.std.specs.Prelude.{◌<◌, ◌≤◌, ◌^◌, ◌-◌, ◌≡◌, T, true};
+ghost use Rattle.std.specs.Prelude.{◌+◌, ◌-◌, ◌/◌, ◌%◌, ◌^◌, ◌<◌, ◌≤◌, ◌≡◌, IsTrue};
 ghost use Rattle.roots.specs.Root.{sqrt_of, rootable};
 ghost use Rattle.roots.specs.Parts.{Nearest, Lifted, Packed, spread};
 
+use std::num::f64_to_bits_with_nan;
+
 // No NaN and not below zero. No comparison with a NaN holds, so the one that accepts is asked.
+#[tactic(auto, using(crate::proofs::Answer::test_is))]
 pub fn has_root(x: f32) -> bool
     ensures { result ≡ rootable x }
 {
     0.0 <= x
 }
 
-// A whole number near the root of x, by two steps of Heron's rule in f64 from a parabola. It is
-// there for speed, and nothing is claimed of it: `near_root` tests it. (2^52 added, the last places
-// of an f64 are its whole part, rounded.)
-fn guess(x: u64) -> u64
-    requires { x < 2 ^ 48 }
-{
-    let v = x as f64;
-    let a = (6.270524152877852e-8 - v * 6.69835564680521e-23) * v + 4349951.5;
-    let b = (a + v / a) * 0.5;
-    let t = (b + v / b) * 0.5 + 4503599627370496.0;
-    if t == t {
-        f64::to_bits(t) % 0x200_0000
-    } else {
-        0
-    }
+// A whole number whose root has 24 binary digits, also when it is rounded.
+#[derive(Clone, Copy)]
+struct Radicand {
+    value: u64,
+    ghost least: { 2 ^ 46 ≤ value },
+    ghost most: { value ≤ 2 ^ 48 - 2 ^ 24 },
 }
 
-// The whole number nearest to the root of x, found by halving: `low` is no more than it, and
-// `high` is above it.
-fn halved_root(x: u64) -> u64
-    requires bound { 2 ^ 46 ≤ x }
-    requires x_bound { x ≤ 2 ^ 48 - 2 ^ 24 }
-    ensures { Nearest x result }
-{
-    let mut low: u64 = 0x80_0000;
-    let mut high: u64 = 0x100_0000;
-    while low + 1 < high {
-        let mid = (low + high) / 2;
-        if mid * mid < x + mid {
-            low = mid;
+impl Radicand {
+    // A whole number near the root, by two steps of Heron's rule in f64 from a parabola. It is there for
+    // speed, and nothing is claimed of it: `nearest_root` tests it. (2^52 added, the last places of an
+    // f64 are its whole part, rounded.)
+    fn guess(self) -> u64 {
+        let v = self.value as f64;
+        let a = (6.270524152877852e-8 - v * 6.69835564680521e-23) * v + 4349951.5;
+        let b = (a + v / a) * 0.5;
+        let t = (b + v / b) * 0.5 + 4503599627370496.0;
+        f64_to_bits_with_nan(t) % 0x200_0000
+    }
+
+    // g is the whole number nearest to the root. (The square is taken once, for speed.)
+    fn is_nearest(self, g: u64) -> bool
+        ensures { IsTrue result → Nearest self.value g }
+    {
+        if 0x80_0000 <= g && g < 0x100_0000 {
+            let square = g * g;
+            square < self.value + g && self.value <= square + g
         } else {
-            high = mid;
+            false
         }
     }
-    low
-}
 
-// g is the whole number nearest to the root of x.
-fn is_nearest(x: u64, g: u64) -> bool
-    requires { x < 2 ^ 48 }
-    ensures { result ≡ true → Nearest x g }
-{
-    if 0x80_0000 <= g {
-        if g < 0x100_0000 {
-            let s = g * g;
-            if s < x + g {
-                if x <= s + g {
-                    return true;
-                }
+    // The whole number nearest to the root: the guess, if it is the one.
+    fn nearest_root(self) -> u64
+        ensures { Nearest self.value result }
+    {
+        let g = self.guess();
+        if self.is_nearest(g) {
+            g
+        } else {
+            let floor = self.value.isqrt();
+            if floor * floor + floor < self.value {
+                floor + 1
+            } else {
+                floor
             }
         }
     }
-    false
 }
 
-// The whole number nearest to the root of x: the guess, if it is the one, and else by halving.
-fn near_root(x: u64) -> u64
-    requires bound { 2 ^ 46 ≤ x }
-    requires x_bound { x ≤ 2 ^ 48 - 2 ^ 24 }
-    ensures { Nearest x result }
-{
-    let g = guess(x);
-    if is_nearest(x, g) {
-        return g;
-    }
-    halved_root(x)
-}
-
-// An f32 above zero: m * 2 ^ (f - 214), with m of 24 binary digits.
+// An f32 above zero: digits * 2 ^ (exponent - 214), with 24 binary digits.
 #[derive(Clone, Copy)]
 struct Scaled {
-    m: u32,
-    f: u32,
+    digits: u32,
+    exponent: u32,
+    ghost least: { 2 ^ 23 ≤ digits },
+    ghost most: { digits < 2 ^ 24 },
+    ghost bound: { exponent ≤ 318 },
 }
 
-// t of the smallest f32, with its leading digit brought to the 24th place.
-fn lifted(t: u32) -> Scaled
-    requires t_nonzero { 0 < t }
-    requires t_bound { t < 2 ^ 23 }
-    ensures { Lifted t result.m result.f }
-{
-    let mut m = t;
-    let mut f: u32 = 65;
-    while m < 0x80_0000 {
-        m = m * 2;
-        f = f - 1;
+impl Scaled {
+    // t of the smallest f32, with its leading digit brought to the 24th place.
+    fn lifted(t: u32) -> Scaled
+        requires t_nonzero { 0 < t }
+        requires t_bound { t < 2 ^ 23 }
+        ensures { Lifted t result.digits result.exponent }
+    {
+        let places = t.leading_zeros() - 8;
+        Scaled {
+            digits: t << places,
+            exponent: 65 - places,
+        }
     }
-    Scaled { m: m, f: f }
-}
 
-// m with places after it: the whole number whose root is the root's 24 digits.
-fn spread(m: u32, f: u32) -> u64
-    requires bound { 2 ^ 23 ≤ m }
-    requires m_bound { m < 2 ^ 24 }
-    ensures { (result ≡ spread m f) × (2 ^ 46 ≤ result) × (result ≤ 2 ^ 48 - 2 ^ 24) }
-{
-    let w = m as u64;
-    if f % 2 == 0 {
-        w * 0x100_0000
-    } else {
-        w * 0x80_0000
+    // The f32 with the bit pattern b.
+    fn normal(b: u32) -> Scaled
+        requires least { 2 ^ 23 ≤ b }
+        requires most { b < 0x7f80_0000 }
+        ensures digits { result.digits ≡ b % 2 ^ 23 + 2 ^ 23 }
+        ensures exponent { result.exponent ≡ b / 2 ^ 23 + 64 }
+    {
+        Scaled {
+            digits: b % 0x80_0000 + 0x80_0000,
+            exponent: b / 0x80_0000 + 64,
+        }
+    }
+
+    // The digits with places after them: the whole number whose root is the root's 24 digits.
+    fn spread(self) -> Radicand
+        ensures { result.value ≡ spread self.digits self.exponent }
+    {
+        let digits = self.digits as u64;
+        if self.exponent % 2 == 0 {
+            Radicand {
+                value: digits * 0x100_0000,
+            }
+        } else {
+            Radicand {
+                value: digits * 0x80_0000,
+            }
+        }
+    }
+
+    // The bit pattern of the root.
+    fn root_bits(self) -> u32
+        ensures { Packed self.digits self.exponent result }
+    {
+        let q = self.spread().nearest_root();
+        ((self.exponent + 1) / 2 + 30) * 0x80_0000 + (q as u32)
+    }
+
+    // b is that bit pattern. A pattern's exponent counts the leading digit, which q has too.
+    fn is_root_bits(self, b: u32) -> bool
+        ensures { IsTrue result → Packed self.digits self.exponent b }
+    {
+        b / 0x80_0000 == (self.exponent + 1) / 2 + 31
+            && self.spread().is_nearest((b % 0x80_0000 + 0x80_0000) as u64)
     }
 }
 
-// The bit pattern of the root of m * 2 ^ (f - 214).
-fn root_bits(m: u32, f: u32) -> u32
-    requires bound { 2 ^ 23 ≤ m }
-    requires m_bound { m < 2 ^ 24 }
-    requires f_bound { f ≤ 318 }
-    ensures { Packed m f result }
-{
-    let q = near_root(spread(m, f));
-    ((f + 1) / 2 + 30) * 0x80_0000 + (q as u32)
-}
-
-// b is that bit pattern. A pattern's exponent counts the leading digit, which q has too.
-fn is_root_bits(m: u32, f: u32, b: u32) -> bool
-    requires bound { 2 ^ 23 ≤ m }
-    requires m_bound { m < 2 ^ 24 }
-    requires f_bound { f ≤ 318 }
-    ensures { result ≡ true → Packed m f b }
-{
-    if b / 0x80_0000 != (f + 1) / 2 + 31 {
-        return false;
-    }
-    is_nearest(spread(m, f), (b % 0x80_0000 + 0x80_0000) as u64)
-}
-
-// The root of x, the nearest f32. +0, -0 and +inf, whose patterns the first two tests find, are
-// their own roots.
+// The root of x, the nearest f32. +0, -0 and +inf, whose patterns the first test finds, are their own
+// roots.
 pub fn rounded_root(x: f32) -> f32
-    requires { T (rootable x) }
+    requires { IsTrue (rootable x) }
     ensures { result ≡ sqrt_of x }
 {
-    let b = f32::to_bits(x);
-    if b == 0 {
-        return x;
+    let b = x.to_bits();
+    if b == 0 || 0x7f80_0000 <= b {
+        x
+    } else if b < 0x80_0000 {
+        f32::from_bits(Scaled::lifted(b).root_bits())
+    } else {
+        f32::from_bits(Scaled::normal(b).root_bits())
     }
-    if 0x7f80_0000 <= b {
-        return x;
-    }
-    let e = b / 0x80_0000;
-    let t = b % 0x80_0000;
-    if e == 0 {
-        let s = lifted(t);
-        return f32::from_bits(root_bits(s.m, s.f));
-    }
-    f32::from_bits(root_bits(t + 0x80_0000, e + 64))
 }
 
 // y is the root of x. Only asked of a y that is likely to be it: where x is zero, subnormal or
 // infinite the answer is no.
 pub fn is_root(x: f32, y: f32) -> bool
-    ensures { result ≡ true → y ≡ sqrt_of x }
+    ensures { IsTrue result → y ≡ sqrt_of x }
 {
     let b = float32::to_bits(x);
-    if b < 0x80_0000 {
-        return false;
-    }
-    if 0x7f80_0000 <= b {
-        return false;
-    }
-    is_root_bits(
-        b % 0x80_0000 + 0x80_0000,
-        b / 0x80_0000 + 64,
-        float32::to_bits(y),
-    )
+    0x80_0000 <= b && b < 0x7f80_0000 && Scaled::normal(b).is_root_bits(float32::to_bits(y))
 }

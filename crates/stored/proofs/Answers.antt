@@ -9,10 +9,10 @@ use lib.Dec.{eqb}
 use lib.IntN.{ℤ}
 use lib.ListN.{length, take, drop}
 use lib.Ieee.{Float}
-use Rattle.refusals.specs.Paper.{answered, paper}
+use Rattle.std.specs.Prelude.{Err}
+use Rattle.refusals.specs.Paper.{Verdict, accepted, answered, paper}
 use Rattle.refusals.specs.declared.Refusal.{Refusal}
 use Rattle.refusals.specs.declared.Refusal.TheVariants.{Length, Degree}
-use Rattle.refusals.specs.declared.Verdict.{Verdict}
 use Rattle.refusals.proofs.Laws.{both_accepted, check_accepted}
 use Rattle.tables.specs.Degree.{N_COEFF, N_MAX, WMM_MAX, degree_of, entries}
 use Rattle.lists.specs.Lists.{Long, lengths_verdict, lists_verdict, long, ninety_verdict}
@@ -25,15 +25,15 @@ use Rattle.stored.proofs.Frame.{Field, field_of_lem, fields_length}
 
 -- ---- the checks of the bytes
 module _ (k : ℕ) (s : List ℕ) (v : Verdict) (e : v ≡ frame_of k s) where
-  pub no_frame : (r : Refusal) → v ≡ Verdict.Refused r → Verdict.Refused r ≡ verdict_of k s
+  pub no_frame : (r : Refusal) → v ≡ Err r → Err r ≡ verdict_of k s
   unfolding verdict_of
   no_frame r h = rw (sym e, h)
 
-  pub in_frame : v ≡ Verdict.Accepted → (u : Verdict) → u ≡ set_verdict (set_of k s).lists → u ≡ verdict_of k s
+  pub in_frame : v ≡ accepted → (u : Verdict) → u ≡ set_verdict (set_of k s).lists → u ≡ verdict_of k s
   unfolding verdict_of
   in_frame h u f = f ∙ rw (sym e, h)
 
-  pub frame_long : v ≡ Verdict.Accepted → length s ≡ stored_length k
+  pub frame_long : v ≡ accepted → length s ≡ stored_length k
   frame_long h = let l = fields_length (contents_of k) 1 0 s (omega arith) (sym e ∙ h) in omega (arith, l)
 
 -- lists that are read are long enough: 7 alone is left to ask
@@ -64,7 +64,7 @@ field_alone k d s = rw (long_pass (list_of k 1 s) (list_of k 2 s) (list_of k 3 s
         }
 
 -- ---- reading lists of k entries
--- the four lists, as the code takes them from their places
+-- the four lists, from their places
 pub lists_taken : (k : ℕ) (s : List ℕ) (g h gd hd : List Float) → g ≡ floats_in k (drop 8 s) → h ≡ floats_in k (drop (8 + (3 + 4 * k)) s)
     → gd ≡ floats_in k (drop (8 + 2 * (3 + 4 * k)) s) → hd ≡ floats_in k (drop (8 + 3 * (3 + 4 * k)) s) → lists_of g h gd hd ≡ (set_of k s).lists
 lists_taken k s g h gd hd a b c d =
@@ -77,15 +77,15 @@ lists_taken k s g h gd hd a b c d =
     there e = ap (λ (at : ℕ). floats_in k (drop at s)) e
 
 module _ (k : ℕ) (s : List ℕ) (held : Lists) (v : Verdict) (f : v ≡ verdict_of k s) where
-  pub refused_bytes : (r : Refusal) → v ≡ Verdict.Refused r → left (paper r) held ≡ afterwards (says_of k s) held
+  pub refused_bytes : (r : Refusal) → v ≡ Err r → left (paper r) held ≡ afterwards (says_of k s) held
   unfolding says_of
   refused_bytes r h = rw (sym f, h)
 
-  pub taken_bytes : v ≡ Verdict.Accepted → (y : ℤ) → y ≡ (set_of k s).year → (l : Lists) → l ≡ (set_of k s).lists → left (answered y) l ≡ afterwards (says_of k s) held
+  pub taken_bytes : v ≡ accepted → (y : ℤ) → y ≡ (set_of k s).year → (l : Lists) → l ≡ (set_of k s).lists → left (answered y) l ≡ afterwards (says_of k s) held
   unfolding says_of
   taken_bytes h y i l j = (λ n. left (answered (i n)) (j n)) ∙ rw (sym f, h)
 
-  pub taken_long : v ≡ Verdict.Accepted → length s ≡ stored_length k
+  pub taken_long : v ≡ accepted → length s ≡ stored_length k
   unfolding verdict_of
   taken_long h = frame_long k s (frame_of k s) refl (both_accepted (frame_of k s) (set_verdict (set_of k s).lists) (sym f ∙ h)).0
 
@@ -99,66 +99,57 @@ module _ (s : List ℕ) (held : Lists) (b : Bool) (e : b ≡ long held.g held.h 
 
 -- ---- reading lists of either length
 -- the entries of a stored list
-module _ (s : List ℕ) where
-  pub early_end : length s < 8 → N_COEFF ≡ entries_in s
+pub early_end : (s : List ℕ) → length s < 8 → N_COEFF ≡ entries_in s
+unfolding entries_in
+early_end s h = rw (lt-leb 8 (length s) h)
+
+module _ (s : List ℕ) (h : 8 ≤ length s) (v : ℕ) (e : v ≡ number (take 2 (drop 6 s))) where
+  pub longer_list : v ≡ list_length LONGER → LONGER ≡ entries_in s
   unfolding entries_in
-  early_end h = rw (lt-leb 8 (length s) h)
+  longer_list f = rw (le-leb 8 (length s) h, sym e, eq-eqb v (list_length LONGER) f)
 
-  module _ (h : 8 ≤ length s) (v : ℕ) (e : v ≡ number (take 2 (drop 6 s))) where
-    pub longer_list : v ≡ list_length LONGER → LONGER ≡ entries_in s
-    unfolding entries_in
-    longer_list f = rw (le-leb 8 (length s) h, sym e, eq-eqb v (list_length LONGER) f)
-
-    pub other_list : (v ≡ list_length LONGER → ⊥) → N_COEFF ≡ entries_in s
-    unfolding entries_in
-    other_list f = rw (le-leb 8 (length s) h, sym e, ne_eqb v (list_length LONGER) f)
+  pub other_list : (v ≡ list_length LONGER → ⊥) → N_COEFF ≡ entries_in s
+  unfolding entries_in
+  other_list f = rw (le-leb 8 (length s) h, sym e, ne_eqb v (list_length LONGER) f)
 
 -- the form, and the degree of lists with n entries
 module _ (n : ℕ) (s : List ℕ) (m : ℕ) (e : m ≡ entries_in s) (v : Verdict) (f : v ≡ frame_of m s) where
-  pub form_bad : (r : Refusal) → v ≡ Verdict.Refused r → Verdict.Refused r ≡ form_verdict n s
+  pub form_bad : (r : Refusal) → v ≡ Err r → Err r ≡ form_verdict n s
   unfolding form_verdict
   form_bad r h = rw (sym e, sym f, h)
 
-  pub other_degree : v ≡ Verdict.Accepted → (n ≡ m → ⊥) → Verdict.Refused Degree ≡ form_verdict n s
+  pub other_degree : v ≡ accepted → (n ≡ m → ⊥) → Err Degree ≡ form_verdict n s
   unfolding form_verdict
   other_degree h d = rw (sym e, sym f, h, ne_eqb n m d)
 
-  pub form_good : v ≡ Verdict.Accepted → n ≡ m → Verdict.Accepted ≡ form_verdict n s
+  pub form_good : v ≡ accepted → n ≡ m → accepted ≡ form_verdict n s
   unfolding form_verdict
   form_good h d = rw (sym e, sym f, h, eq-eqb n m d)
 
 -- what a form without fault says: the fields have none, and the stored lists have n entries
-pub form_found : (n : ℕ) (s : List ℕ) → form_verdict n s ≡ Verdict.Accepted → (frame_of (entries_in s) s ≡ Verdict.Accepted) × (n ≡ entries_in s)
+pub form_found : (n : ℕ) (s : List ℕ) → form_verdict n s ≡ accepted → (frame_of (entries_in s) s ≡ accepted) × (n ≡ entries_in s)
 unfolding form_verdict
 form_found n s e =
     let u = both_accepted (frame_of (entries_in s) s) _ e in
-    (u.0, eqb-true n (entries_in s) (check_accepted (eqb n (entries_in s)) Degree Verdict.Accepted u.1).0)
+    (u.0, eqb-true n (entries_in s) (check_accepted (eqb n (entries_in s)) Degree accepted u.1).0)
 
 module _ (s : List ℕ) (held : Lists) (u : Verdict) (e : u ≡ lengths_verdict held.g held.h held.g_dot held.h_dot) where
-  pub bad_output : (r : Refusal) → u ≡ Verdict.Refused r → left (paper r) held ≡ read_either_of s held
+  pub bad_output : (r : Refusal) → u ≡ Err r → left (paper r) held ≡ read_either_of s held
   unfolding either_verdict
   bad_output r h = rw (sym e, h)
 
-  module _ (a : u ≡ Verdict.Accepted) (v : Verdict) (f : v ≡ form_verdict (length held.g) s) where
-    pub bad_form : (r : Refusal) → v ≡ Verdict.Refused r → left (paper r) held ≡ read_either_of s held
+  module _ (a : u ≡ accepted) (v : Verdict) (f : v ≡ form_verdict (length held.g) s) where
+    pub bad_form : (r : Refusal) → v ≡ Err r → left (paper r) held ≡ read_either_of s held
     unfolding either_verdict
     bad_form r h = rw (sym e, a, sym f, h)
 
     -- then the reader of that length goes on
-    pub either_on : v ≡ Verdict.Accepted → (n : ℕ) → length held.g ≡ n → afterwards (says_of n s) held ≡ read_either_of s held
+    pub either_on : v ≡ accepted → (n : ℕ) → length held.g ≡ n → afterwards (says_of n s) held ≡ read_either_of s held
     unfolding either_verdict says_of verdict_of
     either_on h n l =
         let found = form_found (length held.g) s (sym f ∙ h) in
         ap (λ (m : ℕ). afterwards (says_of m s) held) (sym l ∙ found.1)
         ∙ rw (found.0, sym e, a, sym f, h)
-
--- the lengths of lists that nothing is refused of: one of two, and each the same
-module _ (l : Lists) (e : lengths_verdict l.g l.h l.g_dot l.h_dot ≡ Verdict.Accepted) where
-  pub each_alike : (n : ℕ) → length l.g ≡ n → Each n l
-  each_alike n h = let w = lengths_long l.g l.h l.g_dot l.h_dot e in (h, w.h_long ∙ h, w.gd_long ∙ h, w.hd_long ∙ h)
-
-  pub a_degree : length l.g ≡ entries (degree_of (length l.g))
-  a_degree = (lengths_long l.g l.h l.g_dot l.h_dot e).g_long
 
 pub two_lengths : (k : ℕ) → k ≡ entries (degree_of k) → (k ≡ N_COEFF → ⊥) → k ≡ LONGER
 unfolding degree_of
@@ -167,6 +158,17 @@ two_lengths k d n = go (eqb k (entries N_MAX)) refl d
     go : (b : Bool) → eqb k (entries N_MAX) ≡ b → k ≡ entries (cond b N_MAX WMM_MAX) → k ≡ LONGER
     go true s t = t
     go false s t = absurd (n t)
+
+-- the lengths of lists that nothing is refused of: one of two, and each the same
+module _ (l : Lists) (e : lengths_verdict l.g l.h l.g_dot l.h_dot ≡ accepted) where
+  pub each_alike : (n : ℕ) → length l.g ≡ n → Each n l
+  each_alike n h = let w = lengths_long l.g l.h l.g_dot l.h_dot e in (h, w.h_long ∙ h, w.gd_long ∙ h, w.hd_long ∙ h)
+
+  pub a_degree : length l.g ≡ entries (degree_of (length l.g))
+  a_degree = (lengths_long l.g l.h l.g_dot l.h_dot e).g_long
+
+  pub longer : (n : ℕ) → length l.g ≡ n → (n ≡ N_COEFF → ⊥) → n ≡ LONGER
+  longer n h d = sym h ∙ two_lengths (length l.g) a_degree (λ q. d (sym h ∙ q))
 
 pub at_most : (k : ℕ) → k ≡ entries (degree_of k) → k ≤ LONGER
 unfolding degree_of
@@ -177,7 +179,7 @@ at_most k d = go (eqb k (entries N_MAX)) d
     go false t = omega (arith, t)
 
 -- bytes without fault in a form are bytes of that form
-pub form_of : (k : ℕ) → k ≡ entries (degree_of k) → (s : List ℕ) → frame_of k s ≡ Verdict.Accepted → k ≡ entries_in s
+pub form_of : (k : ℕ) → k ≡ entries (degree_of k) → (s : List ℕ) → frame_of k s ≡ accepted → k ≡ entries_in s
 unfolding degree_of fields_verdict
 form_of k d s e =
     let u = both_accepted (field_verdict 1 YEAR 0 s) _ e in

@@ -1,4 +1,4 @@
--- Numbers as bytes, low byte first: there and back, and as the code reads them. Assumes nothing.
+-- Numbers as bytes, low byte first: there and back, and read from a place of some bytes. Assumes nothing.
 use mathlib.Core.Path.{◌≡◌, refl, sym, ap, subst, ◌∙◌}
 use mathlib.Core.List.{List, [], ◌∷◌}
 use Prim.Native.Nat.{ℕ, zero, suc, ◌+◌, ◌*◌, ◌/◌, ◌%◌, ◌^◌, ◌≤◌, ◌<◌}
@@ -57,7 +57,7 @@ bytes_drop zero s t = t
 bytes_drop (suc n) [] t = tt
 bytes_drop (suc n) (b ∷ s) t = bytes_drop n s (and_r (ltb b 256) (are_bytes s) t)
 
--- ---- as the code reads them
+-- ---- read from a place
 -- the first of what stands at a place, and the rest
 next : (s : List ℕ) (at : ℕ) → at < length s → drop at s ≡ get_or s at 0 ∷ drop (at + 1) s
 next s at h = rw (add-one at) (drop-cons s at 0 h)

@@ -1,13 +1,15 @@
 -- Lists as bytes: how long they are, one entry more, and there and back. Assumes nothing.
 use mathlib.Core.Path.{◌≡◌, refl, sym, ap, subst, ◌∙◌}
 use mathlib.Core.Bool.{Bool, true, false, not, ◌&&◌}
-use mathlib.Core.List.{List, [], ◌∷◌, ◌++◌}
+use mathlib.Core.List.{List, [], ◌∷◌, ◌++◌, append-nil}
 use Prim.Native.Nat.{ℕ, zero, suc, ◌+◌, ◌*◌, ◌^◌, ◌≤◌, ◌<◌}
+use native.Mathlib.Numerals.{add-one}
 use native.Mathlib.Omega.{arith}
+use Rattle.std.proofs.lemmas.List.{drop-take, take-take}
 use lib.Dec.{T}
 use lib.Ieee.{Float, binary32, fits, le, nan, nan_bits}
 use lib.Ieee.Fits.{and_l, and_r}
-use lib.ListN.{length, get_or, set, take, drop, length-append, length-drop}
+use lib.ListN.{length, get_or, set, take, drop, drop_of_length-le, length-append, length-drop}
 use lib.Pow.{are_bytes}
 use lib.Seq.{append_snoc, drop-cons, drop-drop, length-take-le, set_at, take-add}
 use Rattle.exact.specs.Tests.{all_capped, capped}
@@ -34,6 +36,17 @@ unfolding floats_in
 length_floats zero s = refl
 length_floats (suc k) s = ap suc (length_floats k (drop 4 s))
 
+-- no more bytes than its own are read for a list
+pub floats_part : (k : ℕ) (s : List ℕ) → floats_in k (take (4 * k) s) ≡ floats_in k s
+unfolding floats_in
+floats_part zero s = refl
+floats_part (suc k) s =
+    let w : 4 + 4 * k ≡ 4 * suc k = omega arith in
+    let e : drop 4 (take (4 * suc k) s) ≡ take (4 * k) (drop 4 s) = ap (λ (n : ℕ). drop 4 (take n s)) (sym w) ∙ drop-take 4 (4 * k) s in
+    ap (λ (b : List ℕ). float_of (number b) ∷ floats_in k (drop 4 (take (4 * suc k) s))) (take-take 4 (4 * suc k) s (omega arith))
+    ∙ ap (λ (r : List ℕ). float_of (number (take 4 s)) ∷ floats_in k r) e
+    ∙ ap (λ (l : List Float). float_of (number (take 4 s)) ∷ l) (floats_part k (drop 4 s))
+
 -- ---- one entry more, at the end
 pub bytes_more : (l : List Float) (x : Float) → bytes_of (l ++ (x ∷ [])) ≡ bytes_of l ++ low_first 4 (bits_of x)
 unfolding bytes_of
@@ -48,15 +61,25 @@ floats_more (suc k) s =
     ap (λ (r : List Float). float_of (number (take 4 s)) ∷ r)
     (floats_more k (drop 4 s) ∙ ap (λ (r : List ℕ). floats_in k (drop 4 s) ++ (float_of (number (take 4 r)) ∷ [])) (drop-drop (4 * k) 4 s ∙ ap (λ (n : ℕ). drop n s) e))
 
--- one entry more is read, in the place of the list's own
-pub entry_taken : (k : ℕ) (s : List ℕ) (l : List Float) → k < length l
-    → set (floats_in k s ++ drop k l) k (float_of (number (take 4 (drop (4 * k) s)))) ≡ floats_in (suc k) s ++ drop (suc k) l
-entry_taken k s l h =
-    let x = float_of (number (take 4 (drop (4 * k) s))) in
-    ap (λ (r : List Float). set (floats_in k s ++ r) k x) (drop-cons l k nan h)
-    ∙ set_at (floats_in k s) (get_or l k nan) (drop (suc k) l) x k (length_floats k s)
-    ∙ sym (append_snoc (floats_in k s) x (drop (suc k) l))
-    ∙ ap (λ (r : List Float). r ++ drop (suc k) l) (sym (floats_more k s))
+-- one entry more is read: what the list l is now, x, is the first k entries, then what it held
+module _ (k : ℕ) (s : List ℕ) (l : List Float) (x : List Float) where
+  pub entry_taken : k < length l → x ≡ floats_in k s ++ drop k l → (y : Float) → y ≡ float_of (number (take 4 (drop (4 * k) s)))
+      → set x k y ≡ floats_in (k + 1) s ++ drop (k + 1) l
+  entry_taken h e y f =
+      ap (λ (r : List Float). set r k y) e
+      ∙ ap (λ (r : List Float). set (floats_in k s ++ r) k y) (drop-cons l k nan h)
+      ∙ set_at (floats_in k s) (get_or l k nan) (drop (suc k) l) y k (length_floats k s)
+      ∙ sym (append_snoc (floats_in k s) y (drop (suc k) l))
+      ∙ ap (λ (z : Float). (floats_in k s ++ (z ∷ [])) ++ drop (suc k) l) f
+      ∙ ap (λ (r : List Float). r ++ drop (suc k) l) (sym (floats_more k s))
+      ∙ ap (λ (j : ℕ). floats_in j s ++ drop j l) (sym (add-one k))
+
+  -- all of them
+  pub all_read : length l ≤ k → k ≤ length l → x ≡ floats_in k s ++ drop k l → x ≡ floats_in (length l) s
+  all_read a b e =
+      e ∙ ap (λ (r : List Float). floats_in k s ++ r) (drop_of_length-le l {i = k} a)
+      ∙ append-nil (floats_in k s)
+      ∙ ap (λ (i : ℕ). floats_in i s) (omega (arith, a, b))
 
 -- ---- there and back
 -- every entry is an f32

@@ -1,21 +1,23 @@
 -- The two forms side by side: what the reader of lists of 90 takes, the reader of either form takes alike; and the longer form meets it with 18. Assumes nothing.
-use mathlib.Core.Path.{◌≡◌, refl, sym, ap, ◌∙◌}
+use mathlib.Core.Path.{◌≡◌, refl, sym, ◌∙◌}
 use mathlib.Core.Bool.{true}
-use mathlib.Core.List.{List, [], ◌∷◌}
+use mathlib.Core.List.{List}
 use Prim.Native.Nat.{ℕ}
 use native.Mathlib.Omega.{arith}
-use Rattle.refusals.specs.Paper.{answered, both, paper}
+use borrow.Author.Tests.{eq-eqb, le-leb, lt-ltb, ne_eqb}
+use lib.ListN.{length, get_or, take, drop}
+use Rattle.std.specs.Prelude.{Err}
+use Rattle.refusals.specs.Paper.{accepted, answered, paper}
 use Rattle.refusals.specs.declared.Refusal.TheVariants.{WrongLength}
-use Rattle.refusals.specs.declared.Verdict.{Verdict}
 use Rattle.refusals.proofs.Laws.{both_accepted, told_answered}
 use Rattle.tables.specs.Degree.{N_COEFF}
 use Rattle.tables.proofs.Degrees.{of_short}
 use Rattle.lists.specs.Lists.{long}
 use Rattle.lists.specs.Sets.{Lists, ModelSet, left, set_verdict}
 use Rattle.lists.proofs.Checked.{each_long, long_pass}
-use Rattle.stored.specs.Layout.{LONGER, YEAR, list_length}
+use Rattle.stored.specs.Layout.{LONGER, YEAR, list_length, number}
 use Rattle.stored.specs.Stored.{field_verdict, fields_verdict, frame_of, frame_verdict, read_either_of, read_of, set_in, stored_says, stored_verdict, verdict_of}
-use Rattle.stored.proofs.Frame.{field_of_lem, other_length}
+use Rattle.stored.proofs.Frame.{field_of_lem}
 use Rattle.stored.proofs.Answers.{either_on, form_good, form_of, ninety}
 
 -- a set with lists of 90 is read by both readers alike
@@ -31,18 +33,22 @@ either_as_read s into m n e =
     sym (either_on s into _ refl lengths _ refl (sym form) N_COEFF l.0) ∙ ninety s into true (sym n) refl
 
 -- the longer form without fault has another length at place 6
-longer_other : (s : List ℕ) → frame_of LONGER s ≡ Verdict.Accepted → frame_verdict s ≡ Verdict.Refused (WrongLength 6)
+longer_other : (s : List ℕ) → frame_of LONGER s ≡ accepted → frame_verdict s ≡ Err (WrongLength 6)
 unfolding fields_verdict
 longer_other s e =
     let u = both_accepted (field_verdict 1 YEAR 0 s) _ e in
     let f = field_of_lem 2 (list_length LONGER) 5 s (both_accepted (field_verdict 2 (list_length LONGER) 5 s) _ u.1).0 in
     let r = f.reaches in
     let m = f.measured in
-    let w = other_length 2 (list_length N_COEFF) 5 s (omega (arith, r)) f.tagged (omega (arith, r)) _ refl (λ q. omega (arith, m, q)) in
-    let n = list_length N_COEFF in
-    ap (λ (v : Verdict). both v (fields_verdict (n ∷ n ∷ n ∷ n ∷ []) 2 5 s)) u.0
-    ∙ sym (ap (λ (v : Verdict). both v (fields_verdict (n ∷ n ∷ n ∷ []) 3 368 s)) w)
+    rw (
+      u.0,
+      lt-ltb 5 (length s) (omega (arith, r)),
+      eq-eqb (get_or s 5 0) 2 f.tagged,
+      le-leb 8 (length s) (omega (arith, r)),
+      ne_eqb (number (take 2 (drop 6 s))) (list_length N_COEFF) (λ q. omega (arith, m, q)),
+    )
+    refl
 
-pub longer_refused : (s : List ℕ) (into : Lists) → long into.g into.h into.g_dot into.h_dot ≡ true → frame_of LONGER s ≡ Verdict.Accepted → read_of s into ≡ left (paper (WrongLength 6)) into
+pub longer_refused : (s : List ℕ) (into : Lists) → long into.g into.h into.g_dot into.h_dot ≡ true → frame_of LONGER s ≡ accepted → read_of s into ≡ left (paper (WrongLength 6)) into
 unfolding stored_says verdict_of
 longer_refused s into n e = rw (n, longer_other s e) refl

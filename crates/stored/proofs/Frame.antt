@@ -9,10 +9,10 @@ use lib.Dec.{T, eqb, leb, ltb}
 use lib.ListN.{length, get_or, take, drop, length-append, length-drop, drop_of_length-le, take-append-drop}
 use lib.Pow.{are_bytes}
 use lib.Seq.{drop-append-add, drop_at, drop-cons, drop-drop, get_or-append_seam, length-take-le}
-use Rattle.refusals.specs.Paper.{both, check}
+use Rattle.std.specs.Prelude.{Err}
+use Rattle.refusals.specs.Paper.{Verdict, accepted, both}
 use Rattle.refusals.specs.declared.Refusal.{Refusal}
 use Rattle.refusals.specs.declared.Refusal.TheVariants.{WrongTag, WrongLength, WrongEnd}
-use Rattle.refusals.specs.declared.Verdict.{Verdict}
 use Rattle.refusals.proofs.Laws.{check_accepted, both_accepted}
 use Rattle.stored.specs.Layout.{HEAD, extent, field_of, fields_of, low_first, number}
 use Rattle.stored.specs.Stored.{field_verdict, fields_verdict}
@@ -20,26 +20,26 @@ use Rattle.stored.proofs.Bytes.{bytes_drop, bytes_take, low_back, number_back}
 
 -- ---- the ways to a field's verdict
 module _ (tag n at : ℕ) (s : List ℕ) where
-  pub no_tag : length s ≤ at → Verdict.Refused (WrongEnd (length s)) ≡ field_verdict tag n at s
+  pub no_tag : length s ≤ at → Err (WrongEnd (length s)) ≡ field_verdict tag n at s
   no_tag h = rw (le-ltb at (length s) h)
 
   module _ (h1 : at < length s) where
-    pub other_tag : (get_or s at 0 ≡ tag → ⊥) → Verdict.Refused (WrongTag at) ≡ field_verdict tag n at s
+    pub other_tag : (get_or s at 0 ≡ tag → ⊥) → Err (WrongTag at) ≡ field_verdict tag n at s
     other_tag h = rw (lt-ltb at (length s) h1, ne_eqb (get_or s at 0) tag h)
 
     module _ (h2 : get_or s at 0 ≡ tag) where
-      pub no_length : length s < at + HEAD → Verdict.Refused (WrongEnd (length s)) ≡ field_verdict tag n at s
+      pub no_length : length s < at + HEAD → Err (WrongEnd (length s)) ≡ field_verdict tag n at s
       no_length h = rw (lt-ltb at (length s) h1, eq-eqb (get_or s at 0) tag h2, lt-leb (at + HEAD) (length s) h)
 
       module _ (h3 : at + HEAD ≤ length s) (v : ℕ) (e : v ≡ number (take 2 (drop (at + 1) s))) where
-        pub other_length : (v ≡ n → ⊥) → Verdict.Refused (WrongLength (at + 1)) ≡ field_verdict tag n at s
+        pub other_length : (v ≡ n → ⊥) → Err (WrongLength (at + 1)) ≡ field_verdict tag n at s
         other_length h = rw (lt-ltb at (length s) h1, eq-eqb (get_or s at 0) tag h2, le-leb (at + HEAD) (length s) h3, sym e, ne_eqb v n h)
 
         module _ (h4 : v ≡ n) where
-          pub no_content : length s < at + HEAD + n → Verdict.Refused (WrongEnd (length s)) ≡ field_verdict tag n at s
+          pub no_content : length s < at + HEAD + n → Err (WrongEnd (length s)) ≡ field_verdict tag n at s
           no_content h = rw (lt-ltb at (length s) h1, eq-eqb (get_or s at 0) tag h2, le-leb (at + HEAD) (length s) h3, sym e, eq-eqb v n h4, lt-leb (at + HEAD + n) (length s) h)
 
-          pub whole : at + HEAD + n ≤ length s → Verdict.Accepted ≡ field_verdict tag n at s
+          pub whole : at + HEAD + n ≤ length s → accepted ≡ field_verdict tag n at s
           whole h = rw (lt-ltb at (length s) h1, eq-eqb (get_or s at 0) tag h2, le-leb (at + HEAD) (length s) h3, sym e, eq-eqb v n h4, le-leb (at + HEAD + n) (length s) h)
 
 -- ---- field after field
@@ -50,22 +50,21 @@ module _ (ns : List ℕ) (s : List ℕ) (i at n : ℕ) (q : Verdict) (h : i < le
   split = e ∙ rw (drop-cons ns i 0 h, add-one i, add-one (suc i), sym en)
 
   module _ (v : Verdict) (ev : v ≡ field_verdict (i + 1) n at s) where
-    pub field_bad : (k : Refusal) → v ≡ Verdict.Refused k → Verdict.Refused k ≡ q
+    pub field_bad : (k : Refusal) → v ≡ Err k → Err k ≡ q
     field_bad k r = sym (split ∙ rw (sym ev, r))
 
-    pub field_good : v ≡ Verdict.Accepted → q ≡ fields_verdict (drop (i + 1) ns) (i + 1 + 1) (at + HEAD + n) s
+    pub field_good : v ≡ accepted → q ≡ fields_verdict (drop (i + 1) ns) (i + 1 + 1) (at + HEAD + n) s
     field_good r = split ∙ rw (sym ev, r)
 
-module _ (ns : List ℕ) (s : List ℕ) (i at : ℕ) (q : Verdict) (h : length ns ≤ i) (e : q ≡ fields_verdict (drop i ns) (i + 1) at s) where
-  last : q ≡ check (leb (length s) at) (WrongEnd at) Verdict.Accepted
+-- ---- after the last field
+module _ (tag at : ℕ) (s : List ℕ) where
+  pub left_over : at < length s → Err (WrongEnd at) ≡ fields_verdict [] tag at s
   unfolding fields_verdict
-  last = e ∙ rw (drop_of_length-le ns {i = i} h)
+  left_over l = rw (lt-leb (length s) at l)
 
-  pub left_over : at < length s → Verdict.Refused (WrongEnd at) ≡ q
-  left_over l = sym (last ∙ rw (lt-leb (length s) at l))
-
-  pub all_taken : length s ≤ at → Verdict.Accepted ≡ q
-  all_taken l = sym (last ∙ rw (le-leb (length s) at l))
+  pub all_taken : length s ≤ at → accepted ≡ fields_verdict [] tag at s
+  unfolding fields_verdict
+  all_taken l = rw (le-leb (length s) at l)
 
 -- ---- a field without fault
 pub record Field (tag n at : ℕ) (s : List ℕ) : Type 0 where
@@ -73,7 +72,7 @@ pub record Field (tag n at : ℕ) (s : List ℕ) : Type 0 where
   pub measured : number (take 2 (drop (at + 1) s)) ≡ n
   pub reaches : at + HEAD + n ≤ length s
 
-pub field_of_lem : (tag n at : ℕ) (s : List ℕ) → field_verdict tag n at s ≡ Verdict.Accepted → Field tag n at s
+pub field_of_lem : (tag n at : ℕ) (s : List ℕ) → field_verdict tag n at s ≡ accepted → Field tag n at s
 field_of_lem tag n at s e =
     let a = check_accepted (ltb at (length s)) (WrongEnd (length s)) _ e in
     let b = check_accepted (eqb (get_or s at 0) tag) (WrongTag at) _ a.1 in
@@ -88,9 +87,9 @@ field_of_lem tag n at s e =
 
 -- ---- fields without fault
 -- they end where the bytes end
-pub fields_length : (ns : List ℕ) (tag at : ℕ) (s : List ℕ) → at ≤ length s → fields_verdict ns tag at s ≡ Verdict.Accepted → length s ≡ at + extent ns
+pub fields_length : (ns : List ℕ) (tag at : ℕ) (s : List ℕ) → at ≤ length s → fields_verdict ns tag at s ≡ accepted → length s ≡ at + extent ns
 unfolding fields_verdict
-fields_length [] tag at s h e = let l = leb-true (length s) at (check_accepted (leb (length s) at) (WrongEnd at) Verdict.Accepted e).0 in omega (arith, h, l)
+fields_length [] tag at s h e = let l = leb-true (length s) at (check_accepted (leb (length s) at) (WrongEnd at) accepted e).0 in omega (arith, h, l)
 fields_length (n ∷ ns) tag at s h e =
     let u = both_accepted (field_verdict tag n at s) _ e in
     let f = (field_of_lem tag n at s u.0).reaches in
@@ -125,9 +124,9 @@ field_joined tag n at s t f =
     ∙ sym (drop-cons s at 0 (omega (arith, r)))
 
 -- the contents, written as fields, are the bytes
-pub fields_joined : (ns : List ℕ) (tag at : ℕ) (s : List ℕ) → T (are_bytes s) → fields_verdict ns tag at s ≡ Verdict.Accepted → fields_of tag (parts ns at s) ≡ drop at s
+pub fields_joined : (ns : List ℕ) (tag at : ℕ) (s : List ℕ) → T (are_bytes s) → fields_verdict ns tag at s ≡ accepted → fields_of tag (parts ns at s) ≡ drop at s
 unfolding fields_verdict fields_of parts
-fields_joined [] tag at s t e = sym (drop_of_length-le s {i = at} (leb-true (length s) at (check_accepted (leb (length s) at) (WrongEnd at) Verdict.Accepted e).0))
+fields_joined [] tag at s t e = sym (drop_of_length-le s {i = at} (leb-true (length s) at (check_accepted (leb (length s) at) (WrongEnd at) accepted e).0))
 fields_joined (n ∷ ns) tag at s t e =
     let u = both_accepted (field_verdict tag n at s) _ e in
     ap (λ (r : List ℕ). field_of tag (take n (drop (at + HEAD) s)) ++ r) (fields_joined ns (suc tag) (at + HEAD + n) s t u.1)
@@ -152,15 +151,22 @@ Short [] = Prim.Unit
 Short (c ∷ cs) = (length c < 65536) × Short cs
 
 -- a field after the bytes p
-field_taken : (tag : ℕ) (p c r : List ℕ) → length c < 65536 → Verdict.Accepted ≡ field_verdict tag (length c) (length p) (p ++ (field_of tag c ++ r))
+field_taken : (tag : ℕ) (p c r : List ℕ) → length c < 65536 → accepted ≡ field_verdict tag (length c) (length p) (p ++ (field_of tag c ++ r))
 field_taken tag p c r h =
     let s = p ++ (field_of tag c ++ r) in
     let l : length s ≡ length p + (HEAD + length c + length r) = omega (arith, length-append p (field_of tag c ++ r), length-append (field_of tag c) r, length_field tag c) in
     let d : drop (length p + 1) s ≡ low_first 2 (length c) ++ c ++ r = drop-append-add p (field_of tag c ++ r) 1 in
-    whole tag (length c) (length p) s (omega (arith, l)) (get_or-append_seam p tag (low_first 2 (length c) ++ c ++ r) 0) (omega (arith, l))
-    (length c) (sym (ap (λ (k : List ℕ). number (take 2 k)) d ∙ low_back 2 (length c) h)) refl (omega (arith, l))
+    rw (
+      lt-ltb (length p) (length s) (omega (arith, l)),
+      eq-eqb (get_or s (length p) 0) tag (get_or-append_seam p tag (low_first 2 (length c) ++ c ++ r) 0),
+      le-leb (length p + HEAD) (length s) (omega (arith, l)),
+      ap (λ (k : List ℕ). number (take 2 k)) d ∙ low_back 2 (length c) h,
+      eq-eqb (length c) (length c) refl,
+      le-leb (length p + HEAD + length c) (length s) (omega (arith, l)),
+    )
+    refl
 
-pub fields_taken : (cs : List (List ℕ)) (tag : ℕ) (p : List ℕ) → Short cs → fields_verdict (lengths cs) tag (length p) (p ++ fields_of tag cs) ≡ Verdict.Accepted
+pub fields_taken : (cs : List (List ℕ)) (tag : ℕ) (p : List ℕ) → Short cs → fields_verdict (lengths cs) tag (length p) (p ++ fields_of tag cs) ≡ accepted
 unfolding fields_verdict fields_of Short lengths
 fields_taken [] tag p h = rw (append-nil p, le-leb (length p) (length p) (omega arith))
 fields_taken (c ∷ cs) tag p h =

@@ -14,9 +14,9 @@ use lib.ListN.{length, take, drop, length-drop}
 use lib.Pow.{are_bytes}
 use lib.Seq.{length-take-le, take_at}
 use Rattle.exact.specs.Tests.{all_capped}
-use Rattle.refusals.specs.Paper.{answered, paper, unless, told, both}
+use Rattle.std.specs.Prelude.{Ok, Err}
+use Rattle.refusals.specs.Paper.{Verdict, accepted, answered, paper, unless, told, both}
 use Rattle.refusals.specs.declared.Refusal.TheVariants.{Length, NoRoom}
-use Rattle.refusals.specs.declared.Verdict.{Verdict}
 use Rattle.refusals.proofs.Laws.{told_answered, answered_one, both_accepted, check_accepted, no_answer}
 use Rattle.tables.specs.Degree.{N_COEFF, degree_of, entries}
 use Rattle.tables.proofs.Degrees.{of_short}
@@ -64,7 +64,7 @@ module _ (k : ℕ) (most : k ≤ LONGER) (y : ℕ) (small : y < 65536) (l : List
       let hd = list_back k s 5 p5 l.h_dot [] n.3 f.3 at-hd (content_at k 4) (omega arith) in
       λ i. record { year = pos (year i); lists = lists_of (g i) (h i) (gd i) (hd i) }
 
-  frame_good : frame_of k (stored_of y l) ≡ Verdict.Accepted
+  frame_good : frame_of k (stored_of y l) ≡ accepted
   unfolding Short
   frame_good =
       let cs = low_first YEAR y ∷ bytes_of l.g ∷ bytes_of l.h ∷ bytes_of l.g_dot ∷ bytes_of l.h_dot ∷ [] in
@@ -78,7 +78,7 @@ module _ (k : ℕ) (most : k ≤ LONGER) (y : ℕ) (small : y < 65536) (l : List
           let d = list_long k l.h_dot n.3 in
           (omega (arith, length_low YEAR y), (omega (arith, a, most), (omega (arith, b, most), (omega (arith, c, most), (omega (arith, d, most), tt)))))
 
-  stored_read : SetFits l → set_verdict l ≡ Verdict.Accepted → says_of k (stored_of y l) ≡ answered (record { year = pos y; lists = l })
+  stored_read : SetFits l → set_verdict l ≡ accepted → says_of k (stored_of y l) ≡ answered (record { year = pos y; lists = l })
   unfolding says_of verdict_of
   stored_read f c =
       ap (λ (v : Verdict). told (both v (set_verdict (set_of k (stored_of y l)).lists)) (answered (set_of k (stored_of y l)))) frame_good
@@ -91,26 +91,26 @@ storable_small (pos y) e = (refl, let h = leb-true y 65535 e in omega (arith, h)
 storable_small (negsuc y) e = absurd (subst T (sym e) tt)
 
 -- what a write that refuses nothing found: q, of the lists, and the year's test
-found : (k : ℕ) (year : ℤ) (room : ℕ) (q : Verdict) → both q (room_verdict k year room) ≡ Verdict.Accepted → (q ≡ Verdict.Accepted) × (storable year ≡ true)
+found : (k : ℕ) (year : ℤ) (room : ℕ) (q : Verdict) → both q (room_verdict k year room) ≡ accepted → (q ≡ accepted) × (storable year ≡ true)
 found k year room q e =
     let u = both_accepted q _ e in
-    let t = holds (check_accepted (storable year && leb (stored_length k) room) NoRoom Verdict.Accepted u.1).0 in
+    let t = holds (check_accepted (storable year && leb (stored_length k) room) NoRoom accepted u.1).0 in
     (u.0, is_true (storable year) (and_l (storable year) (leb (stored_length k) room) t))
 
-accepted_wrote : (n : ℕ) (v : Verdict) (b held : List ℕ) → (wrote n v b held).found ≡ Verdict.Accepted → v ≡ Verdict.Accepted
-accepted_wrote n Verdict.Accepted b held e = refl
-accepted_wrote n (Verdict.Refused k) b held e = e
+accepted_wrote : (n : ℕ) (v : Verdict) (b held : List ℕ) → (wrote n v b held).found ≡ accepted → v ≡ accepted
+accepted_wrote n (Ok _) b held e = refl
+accepted_wrote n (Err k) b held e = e
 
 module _ (k : ℕ) (most : k ≤ LONGER) (year : ℤ) (l : Lists) (n : Each k l) (st : storable year ≡ true) where
   -- what is written begins with the bytes of the set
-  first_bytes : (held : List ℕ) (v : Verdict) → v ≡ Verdict.Accepted → take (stored_length k) (wrote (stored_length k) v (stored_of (nat_abs year) l) held).bytes ≡ stored_of (nat_abs year) l
+  first_bytes : (held : List ℕ) (v : Verdict) → v ≡ accepted → take (stored_length k) (wrote (stored_length k) v (stored_of (nat_abs year) l) held).bytes ≡ stored_of (nat_abs year) l
   first_bytes held v a =
       let s = stored_of (nat_abs year) l in
       ap (λ (w : Verdict). take (stored_length k) (wrote (stored_length k) w s held).bytes) a
       ∙ take_at s (drop (stored_length k) held) (stored_length k) (stored_long k (nat_abs year) l held n)
 
   -- and these say the set
-  same_set : (into : Lists) → SetFits l → set_verdict l ≡ Verdict.Accepted → afterwards (says_of k (stored_of (nat_abs year) l)) into ≡ left (answered year) l
+  same_set : (into : Lists) → SetFits l → set_verdict l ≡ accepted → afterwards (says_of k (stored_of (nat_abs year) l)) into ≡ left (answered year) l
   same_set into f c =
       let y = storable_small year st in
       rw (stored_read k most (nat_abs year) y.1 l n f c)
@@ -118,7 +118,7 @@ module _ (k : ℕ) (most : k ≤ LONGER) (year : ℤ) (l : Lists) (n : Each k l)
 
 -- a set that is written reads back to the same bits, whatever the output held and whatever the lists hold that it is read into
 pub written_reads_back : (year : ℤ) (l : Lists) (held : List ℕ) (into : Lists) → SetFits l → long into.g into.h into.g_dot into.h_dot ≡ true
-    → (write_of year l held).found ≡ Verdict.Accepted → read_of (take STORED (write_of year l held).bytes) into ≡ left (answered year) l
+    → (write_of year l held).found ≡ accepted → read_of (take STORED (write_of year l held).bytes) into ≡ left (answered year) l
 unfolding ninety_verdict write_verdict stored_says
 written_reads_back year l held into f long_enough e =
     let a = accepted_wrote STORED (write_verdict year l (length held)) (stored_of (nat_abs year) l) held e in
@@ -130,8 +130,8 @@ written_reads_back year l held into f long_enough e =
     (same_set N_COEFF (lit≤ tt) year l n u.1 into f c.1)
 
 -- the same for lists of either length, read into lists as long
-pub either_reads_back : (year : ℤ) (l : Lists) (held : List ℕ) (into : Lists) → SetFits l → lengths_verdict into.g into.h into.g_dot into.h_dot ≡ Verdict.Accepted
-    → length into.g ≡ length l.g → (write_either_of year l held).found ≡ Verdict.Accepted
+pub either_reads_back : (year : ℤ) (l : Lists) (held : List ℕ) (into : Lists) → SetFits l → lengths_verdict into.g into.h into.g_dot into.h_dot ≡ accepted
+    → length into.g ≡ length l.g → (write_either_of year l held).found ≡ accepted
     → read_either_of (take (stored_length (length l.g)) (write_either_of year l held).bytes) into ≡ left (answered year) l
 unfolding lists_verdict write_either_verdict
 either_reads_back year l held into f i same e =
@@ -152,21 +152,21 @@ either_reads_back year l held into f i same e =
 -- ---- bytes that are read
 -- a read that refuses nothing: the checks passed, and the set is what stands in the bytes
 answer_told : (v : Verdict) (m : ModelSet) (into : Lists) (y : ℤ) → (afterwards (told v (answered m)) into).says ≡ answered y
-    → (v ≡ Verdict.Accepted) × (m.year ≡ y) × ((afterwards (told v (answered m)) into).lists ≡ m.lists)
-answer_told (Verdict.Refused k) m into y e = absurd (no_answer k y e)
-answer_told Verdict.Accepted m into y e = (refl, answered_one m.year y e, refl)
+    → (v ≡ accepted) × (m.year ≡ y) × ((afterwards (told v (answered m)) into).lists ≡ m.lists)
+answer_told (Err k) m into y e = absurd (no_answer k y e)
+answer_told (Ok _) m into y e = (refl, answered_one m.year y e, refl)
 
 answer_read : (b : Bool) (v : Verdict) (m : ModelSet) (into : Lists) (y : ℤ) → (afterwards (unless b (paper Length) (told v (answered m))) into).says ≡ answered y
-    → (v ≡ Verdict.Accepted) × (m.year ≡ y) × ((afterwards (unless b (paper Length) (told v (answered m))) into).lists ≡ m.lists)
+    → (v ≡ accepted) × (m.year ≡ y) × ((afterwards (unless b (paper Length) (told v (answered m))) into).lists ≡ m.lists)
 answer_read false v m into y e = absurd (no_answer Length y e)
 answer_read true v m into y e = answer_told v m into y e
 
-module _ (k : ℕ) (d : k ≡ entries (degree_of k)) (s : List ℕ) (t : T (are_bytes s)) (v : verdict_of k s ≡ Verdict.Accepted) where
-  framed : frame_of k s ≡ Verdict.Accepted
+module _ (k : ℕ) (d : k ≡ entries (degree_of k)) (s : List ℕ) (t : T (are_bytes s)) (v : verdict_of k s ≡ accepted) where
+  framed : frame_of k s ≡ accepted
   unfolding verdict_of
   framed = (both_accepted (frame_of k s) (set_verdict (set_of k s).lists) v).0
 
-  in_caps : set_verdict (set_of k s).lists ≡ Verdict.Accepted
+  in_caps : set_verdict (set_of k s).lists ≡ accepted
   unfolding verdict_of
   in_caps = (both_accepted (frame_of k s) (set_verdict (set_of k s).lists) v).1
 
@@ -203,15 +203,15 @@ module _ (k : ℕ) (d : k ≡ entries (degree_of k)) (s : List ℕ) (t : T (are_
       (λ i. fields_of 1 (year_bytes i ∷ g i ∷ h i ∷ gd i ∷ hd i ∷ [])) ∙ fields_joined (contents_of k) 1 0 s t framed
 
   -- the set goes back to these bytes, where q is what was asked of its lists
-  wrote_again : (held : List ℕ) → stored_length k ≤ length held → (q : Verdict) → q ≡ Verdict.Accepted
-      → wrote (stored_length k) (both q (room_verdict k (pos (year_in s)) (length held))) (stored_of (year_in s) (set_of k s).lists) held ≡ written Verdict.Accepted (s ++ drop (stored_length k) held)
+  wrote_again : (held : List ℕ) → stored_length k ≤ length held → (q : Verdict) → q ≡ accepted
+      → wrote (stored_length k) (both q (room_verdict k (pos (year_in s)) (length held))) (stored_of (year_in s) (set_of k s).lists) held ≡ written accepted (s ++ drop (stored_length k) held)
   wrote_again held h q e =
       rw (e, le-leb (year_in s) 65535 (omega (arith, year_small)), le-leb (stored_length k) (length held) h)
-      (ap (λ (b : List ℕ). written Verdict.Accepted (b ++ drop (stored_length k) held)) same_bytes)
+      (ap (λ (b : List ℕ). written accepted (b ++ drop (stored_length k) held)) same_bytes)
 
 -- bytes that are read write back to the same bytes, whatever the lists held and whatever follows in the output
 pub read_writes_back : (s : List ℕ) (into : Lists) (y : ℤ) (held : List ℕ) → T (are_bytes s) → (read_of s into).says ≡ answered y → STORED ≤ length held
-    → write_of y (read_of s into).lists held ≡ written Verdict.Accepted (s ++ drop STORED held)
+    → write_of y (read_of s into).lists held ≡ written accepted (s ++ drop STORED held)
 unfolding stored_says write_verdict
 read_writes_back s into y held t e h =
     let u = answer_read (long into.g into.h into.g_dot into.h_dot) (verdict_of N_COEFF s) (set_of N_COEFF s) into y e in
@@ -223,10 +223,10 @@ read_writes_back s into y held t e h =
 
 -- what an answer of the reader of either form says: the form of the lists it read into, without fault
 module _ (s : List ℕ) (into : Lists) (y : ℤ) (e : (read_either_of s into).says ≡ answered y) where
-  either_answer : (either_verdict s into ≡ Verdict.Accepted) × (pos (year_in s) ≡ y) × ((read_either_of s into).lists ≡ (set_of (entries_in s) s).lists)
+  either_answer : (either_verdict s into ≡ accepted) × (pos (year_in s) ≡ y) × ((read_either_of s into).lists ≡ (set_of (entries_in s) s).lists)
   either_answer = answer_told (either_verdict s into) (set_of (entries_in s) s) into y e
 
-  either_found : (entries_in s ≡ entries (degree_of (entries_in s))) × (verdict_of (entries_in s) s ≡ Verdict.Accepted)
+  either_found : (entries_in s ≡ entries (degree_of (entries_in s))) × (verdict_of (entries_in s) s ≡ accepted)
   unfolding either_verdict verdict_of
   either_found =
       let u = both_accepted (lengths_verdict into.g into.h into.g_dot into.h_dot) _ either_answer.0 in
@@ -235,16 +235,16 @@ module _ (s : List ℕ) (into : Lists) (y : ℤ) (e : (read_either_of s into).sa
       (subst (λ (j : ℕ). j ≡ entries (degree_of j)) f.1 (a_degree into u.0), rw f.0 w.1)
 
   -- in a set that is read Field's own 6, 23 and 7 find nothing
-  either_good : lists_verdict (list_of (entries_in s) 1 s) (list_of (entries_in s) 2 s) (list_of (entries_in s) 3 s) (list_of (entries_in s) 4 s) ≡ Verdict.Accepted
+  either_good : lists_verdict (list_of (entries_in s) 1 s) (list_of (entries_in s) 2 s) (list_of (entries_in s) 3 s) (list_of (entries_in s) 4 s) ≡ accepted
   unfolding verdict_of
   either_good = field_alone (entries_in s) either_found.0 s ∙ (both_accepted (frame_of (entries_in s) s) (set_verdict (set_of (entries_in s) s).lists) either_found.1).1
 
-  pub either_passes : (let l = (read_either_of s into).lists in lists_verdict l.g l.h l.g_dot l.h_dot ≡ Verdict.Accepted)
+  pub either_passes : (let l = (read_either_of s into).lists in lists_verdict l.g l.h l.g_dot l.h_dot ≡ accepted)
   either_passes = ap (λ (l : Lists). lists_verdict l.g l.h l.g_dot l.h_dot) either_answer.2 ∙ either_good
 
   -- and it writes back to the same bytes
   pub either_writes_back : (held : List ℕ) → T (are_bytes s) → stored_length (entries_in s) ≤ length held
-      → write_either_of y (read_either_of s into).lists held ≡ written Verdict.Accepted (s ++ drop (stored_length (entries_in s)) held)
+      → write_either_of y (read_either_of s into).lists held ≡ written accepted (s ++ drop (stored_length (entries_in s)) held)
   unfolding write_either_verdict
   either_writes_back held t h =
       let k = entries_in s in
@@ -256,7 +256,7 @@ module _ (s : List ℕ) (into : Lists) (y : ℤ) (e : (read_either_of s into).sa
       ∙ wrote_again k either_found.0 s t either_found.1 held h _ either_good
 
 -- the same of the reader of lists of 90: so behind the bytes' refusals stand Field's 1 to 5 and 8 alone
-pub read_passes : (s : List ℕ) (m : ModelSet) → stored_says s ≡ answered m → lists_verdict m.lists.g m.lists.h m.lists.g_dot m.lists.h_dot ≡ Verdict.Accepted
+pub read_passes : (s : List ℕ) (m : ModelSet) → stored_says s ≡ answered m → lists_verdict m.lists.g m.lists.h m.lists.g_dot m.lists.h_dot ≡ accepted
 unfolding stored_says verdict_of
 read_passes s m e =
     let u = told_answered (verdict_of N_COEFF s) (answered (set_of N_COEFF s)) m e in

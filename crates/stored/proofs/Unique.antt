@@ -2,7 +2,7 @@
 use mathlib.Core.Path.{sym, ap, ◌∙◌}
 use Rattle.refusals.specs.OneResult.{OneResult}
 use Rattle.lists.specs.Sets.{Left}
-use Rattle.lists.proofs.Sets.{said_one}
+use Rattle.refusals.proofs.Laws.{said_one}
 use Rattle.stored.specs.Stored.{Written}
 use Rattle.stored.proofs.read as read_fn
 use Rattle.stored.proofs.read_either as read_either_fn
@@ -17,7 +17,7 @@ stored_read κs a x y u v p q =
 pub stored_write : OneResult write_fn.Kinds.ps write_fn.Kinds.r write_fn.Reads.Post
 stored_write κs a x y u v p q =
     let e = p.0 ∙ sym q.0 in
-    (ap (λ (w : Written). w.found) e, λ i. (tt, (tt, (tt, (tt, (tt, ((e i).bytes, tt)))))))
+    (ap (λ (w : Written). w.found) e, λ i. (tt, ((e i).bytes, tt)))
 
 pub read_either : OneResult read_either_fn.Kinds.ps read_either_fn.Kinds.r read_either_fn.Reads.Post
 read_either κs a x y u v p q =
@@ -27,4 +27,4 @@ read_either κs a x y u v p q =
 pub write_either : OneResult write_either_fn.Kinds.ps write_either_fn.Kinds.r write_either_fn.Reads.Post
 write_either κs a x y u v p q =
     let e = p.0 ∙ sym q.0 in
-    (ap (λ (w : Written). w.found) e, λ i. (tt, (tt, (tt, (tt, (tt, ((e i).bytes, tt)))))))
+    (ap (λ (w : Written). w.found) e, λ i. (tt, ((e i).bytes, tt)))

@@ -2,8 +2,9 @@
 use mathlib.Core.Path.{◌≡◌, refl}
 use mathlib.Core.List.{[], ◌∷◌}
 use lib.Ieee.{binary32, of_bits, to_bits}
+use Rattle.std.specs.Prelude.{Err}
+use Rattle.refusals.specs.Paper.{}
 use Rattle.refusals.specs.declared.Refusal.TheVariants.{WrongTag, WrongLength, WrongEnd}
-use Rattle.refusals.specs.declared.Verdict.{Verdict}
 use Rattle.tables.specs.Degree.{N_COEFF}
 use Rattle.stored.specs.Layout.{LONGER, STORED, bytes_of, content_at, field_at, low_first, number, stored_length}
 use Rattle.stored.specs.Stored.{entries_in, fields_verdict, frame_of, frame_verdict}
@@ -35,39 +36,39 @@ unfolding bytes_of of_bits to_bits
 minus_zero = refl
 
 -- no byte; another tag; no second byte of the length; another length; a content cut short; a tag that comes again
-nothing : frame_verdict [] ≡ Verdict.Refused (WrongEnd 0)
+nothing : frame_verdict [] ≡ Err (WrongEnd 0)
 unfolding fields_verdict
 nothing = refl
 
-list_first : frame_verdict (2 ∷ []) ≡ Verdict.Refused (WrongTag 0)
+list_first : frame_verdict (2 ∷ []) ≡ Err (WrongTag 0)
 unfolding fields_verdict
 list_first = refl
 
-half_a_length : frame_verdict (1 ∷ 2 ∷ []) ≡ Verdict.Refused (WrongEnd 2)
+half_a_length : frame_verdict (1 ∷ 2 ∷ []) ≡ Err (WrongEnd 2)
 unfolding fields_verdict
 half_a_length = refl
 
-high_byte_first : frame_verdict (1 ∷ 0 ∷ 2 ∷ 233 ∷ 7 ∷ []) ≡ Verdict.Refused (WrongLength 1)
+high_byte_first : frame_verdict (1 ∷ 0 ∷ 2 ∷ 233 ∷ 7 ∷ []) ≡ Err (WrongLength 1)
 unfolding fields_verdict
 high_byte_first = refl
 
-half_a_year : frame_verdict (1 ∷ 2 ∷ 0 ∷ 233 ∷ []) ≡ Verdict.Refused (WrongEnd 4)
+half_a_year : frame_verdict (1 ∷ 2 ∷ 0 ∷ 233 ∷ []) ≡ Err (WrongEnd 4)
 unfolding fields_verdict
 half_a_year = refl
 
-year_again : frame_verdict (1 ∷ 2 ∷ 0 ∷ 233 ∷ 7 ∷ 1 ∷ 2 ∷ 0 ∷ 233 ∷ 7 ∷ []) ≡ Verdict.Refused (WrongTag 5)
+year_again : frame_verdict (1 ∷ 2 ∷ 0 ∷ 233 ∷ 7 ∷ 1 ∷ 2 ∷ 0 ∷ 233 ∷ 7 ∷ []) ≡ Err (WrongTag 5)
 unfolding fields_verdict
 year_again = refl
 
 -- the longer lists of Wish 8: the reader of either form goes on, and a length of neither form is met by it too
-longer_list : frame_verdict (1 ∷ 2 ∷ 0 ∷ 233 ∷ 7 ∷ 2 ∷ 160 ∷ 1 ∷ []) ≡ Verdict.Refused (WrongLength 6)
+longer_list : frame_verdict (1 ∷ 2 ∷ 0 ∷ 233 ∷ 7 ∷ 2 ∷ 160 ∷ 1 ∷ []) ≡ Err (WrongLength 6)
 unfolding fields_verdict
 longer_list = refl
 
-longer_taken : frame_of (entries_in (1 ∷ 2 ∷ 0 ∷ 233 ∷ 7 ∷ 2 ∷ 160 ∷ 1 ∷ [])) (1 ∷ 2 ∷ 0 ∷ 233 ∷ 7 ∷ 2 ∷ 160 ∷ 1 ∷ []) ≡ Verdict.Refused (WrongEnd 8)
+longer_taken : frame_of (entries_in (1 ∷ 2 ∷ 0 ∷ 233 ∷ 7 ∷ 2 ∷ 160 ∷ 1 ∷ [])) (1 ∷ 2 ∷ 0 ∷ 233 ∷ 7 ∷ 2 ∷ 160 ∷ 1 ∷ []) ≡ Err (WrongEnd 8)
 unfolding entries_in fields_verdict
 longer_taken = refl
 
-neither_form : frame_of (entries_in (1 ∷ 2 ∷ 0 ∷ 233 ∷ 7 ∷ 2 ∷ 161 ∷ 1 ∷ [])) (1 ∷ 2 ∷ 0 ∷ 233 ∷ 7 ∷ 2 ∷ 161 ∷ 1 ∷ []) ≡ Verdict.Refused (WrongLength 6)
+neither_form : frame_of (entries_in (1 ∷ 2 ∷ 0 ∷ 233 ∷ 7 ∷ 2 ∷ 161 ∷ 1 ∷ [])) (1 ∷ 2 ∷ 0 ∷ 233 ∷ 7 ∷ 2 ∷ 161 ∷ 1 ∷ []) ≡ Err (WrongLength 6)
 unfolding entries_in fields_verdict
 neither_form = refl

@@ -1,8 +1,7 @@
 -- A stored set that is read, and one that is written (document 02, Wishes 6 and 8). Definitions only.
-use Rattle.std.specs.Prelude.{◌≡◌, Bool, false, cond, ◌&&◌, List, [], ◌∷◌, ◌++◌, ℕ, suc, ◌+◌, eqb, leb, ltb, ℤ, pos, negsuc, nat_abs, length, get_or, take, drop, Float}
-use Rattle.refusals.specs.Paper.{Paper, answered, told, check, both}
+use Rattle.std.specs.Prelude.{◌≡◌, Bool, false, cond, ◌&&◌, List, [], ◌∷◌, ◌++◌, ℕ, suc, ◌+◌, eqb, leb, ltb, ℤ, pos, negsuc, nat_abs, length, get_or, take, drop, Float, Ok, Err}
+use Rattle.refusals.specs.Paper.{Verdict, accepted, Paper, answered, told, check, both}
 use Rattle.refusals.specs.declared.Refusal.TheVariants.{WrongTag, WrongLength, WrongEnd, NoRoom, Degree}
-use Rattle.refusals.specs.declared.Verdict.{Verdict}
 use Rattle.tables.specs.Degree.{N_COEFF}
 use Rattle.lists.specs.Lists.{lengths_verdict, lists_verdict, ninety_verdict}
 use Rattle.lists.specs.Sets.{Left, Lists, ModelSet, afterwards, lists_of, read_into, set_verdict}
@@ -20,11 +19,11 @@ field_verdict tag n at s =
     (check (eqb (get_or s at 0) tag) (WrongTag at)
     (check (leb (at + HEAD) (length s)) (WrongEnd (length s))
     (check (eqb (number (take 2 (drop (at + 1) s))) n) (WrongLength (at + 1))
-    (check (leb (at + HEAD + n) (length s)) (WrongEnd (length s)) Verdict.Accepted))))
+    (check (leb (at + HEAD + n) (length s)) (WrongEnd (length s)) accepted))))
 
 -- fields with these contents, from a tag and a place on, and nothing after them
 unfoldable pub fields_verdict : List ℕ → ℕ → ℕ → List ℕ → Verdict
-fields_verdict [] tag at s = check (leb (length s) at) (WrongEnd at) Verdict.Accepted
+fields_verdict [] tag at s = check (leb (length s) at) (WrongEnd at) accepted
 fields_verdict (n ∷ ns) tag at s = both (field_verdict tag n at s) (fields_verdict ns (suc tag) (at + HEAD + n) s)
 
 -- 17, 18 and 19, of the form with k entries in each list
@@ -74,7 +73,7 @@ entries_in s =
 
 -- 17, 18 and 19 of that form; then 23, where the output lists have n entries and the stored ones have not
 unfoldable pub form_verdict : ℕ → List ℕ → Verdict
-form_verdict n s = both (frame_of (entries_in s) s) (check (eqb n (entries_in s)) Degree Verdict.Accepted)
+form_verdict n s = both (frame_of (entries_in s) s) (check (eqb n (entries_in s)) Degree accepted)
 
 -- 6 and 23 of the output lists, then those of the bytes, then 7
 unfoldable pub either_verdict : List ℕ → Lists → Verdict
@@ -96,7 +95,7 @@ storable (negsuc n) = false
 
 -- 20: an epoch year that two bytes do not hold, or an output that is too short for lists of k entries
 abbrev pub room_verdict : ℕ → ℤ → ℕ → Verdict
-room_verdict k year room = check (storable year && leb (stored_length k) room) NoRoom Verdict.Accepted
+room_verdict k year room = check (storable year && leb (stored_length k) room) NoRoom accepted
 
 -- what a writer leaves: what it found, and the bytes
 pub record Written : Type 0 where
@@ -108,8 +107,8 @@ written v s = record { found = v; bytes = s }
 
 -- a set that is written, of n bytes, goes before the bytes that it leaves; a refusal leaves all of them
 abbrev pub wrote : ℕ → Verdict → List ℕ → List ℕ → Written
-wrote n Verdict.Accepted s held = written Verdict.Accepted (s ++ drop n held)
-wrote n (Verdict.Refused k) s held = written (Verdict.Refused k) held
+wrote n (Ok _) s held = written accepted (s ++ drop n held)
+wrote n (Err k) s held = written (Err k) held
 
 -- lists of 90 entries: 6 and 7, then 20
 unfoldable pub write_verdict : ℤ → Lists → ℕ → Verdict

@@ -1,10 +1,8 @@
-// Where all stands in a stored set. Five fields, with the tags 1 to 5: the epoch year, then the lists
-// g, h, g_dot and h_dot. A field is its tag, the length of its content in two bytes, and its content.
-// The lists have 90 entries each, or 104.
-ghost use Rattle.std.specs.Prelude.{◌≡◌, ◌<◌, ◌≤◌, get_or, length};
-ghost use Rattle.stored.specs.Layout.{LONGER, contents_of, list_length, stored_length};
-
-pub const FIELDS: usize = 5;
+// Where all stands in a stored set. Five fields, each its tag, the length of its content in two bytes,
+// and its content. The lists have 90 entries each, or 104.
+ghost use Rattle.std.specs.Prelude.{◌≡◌, ◌≤◌};
+ghost use Rattle.stored.specs.Fields.{tag_of};
+ghost use Rattle.stored.specs.Layout.{LONGER, stored_length};
 
 // Tag and length.
 pub const HEAD: usize = 3;
@@ -14,21 +12,25 @@ pub const YEAR_LENGTH: usize = 2;
 // An entry of a list.
 pub const ENTRY: usize = 4;
 
-// Where the first two fields stand. The other lists follow, each a list's field further on.
-pub const YEAR: usize = 0;
+// Where the second field stands, that of the list g.
+pub const G: usize = HEAD + YEAR_LENGTH;
 
-pub const YEAR_CONTENT: usize = YEAR + HEAD;
+// The fields in their order, by their tags.
+#[derive(Clone, Copy)]
+pub enum Field {
+    EpochYear = 1,
+    G = 2,
+    H = 3,
+    GDot = 4,
+    HDot = 5,
+}
 
-pub const G: usize = YEAR + HEAD + YEAR_LENGTH;
-
-// The length of the content of field i, counted from 0.
-pub fn content_length(entries: usize, i: usize) -> usize
-    requires entries_bound { «entries» ≤ LONGER }
-    requires i_in_bounds { i < length (contents_of «entries») }
-    ensures value { result ≡ get_or (contents_of «entries») i 0 }
-    ensures upper_bound { result ≤ list_length LONGER }
-{
-    if i == 0 { YEAR_LENGTH } else { ENTRY * entries }
+impl Field {
+    pub fn tag(self) -> u8
+        ensures { result ≡ tag_of self }
+    {
+        self as u8
+    }
 }
 
 // The length of the whole.

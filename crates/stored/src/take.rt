@@ -1,63 +1,74 @@
-// Numbers and lists of bytes.
-ghost use Rattle.std.specs.Prelude.{◌≡◌, ◌+◌, ◌≤◌, ◌<◌, length, take, drop};
-ghost use Rattle.lists.specs.Sets.{lists_of};
-ghost use Rattle.stored.specs.Layout.{floats_in, list_length, number, stored_length};
-ghost use Rattle.stored.specs.Stored.{Each, set_of};
+// The set that stands in the contents of five fields, and refusal 7.
+ghost use Rattle.std.specs.Prelude.{◌≡◌, ◌+◌, ◌*◌, ◌≤◌, length, take, drop};
+ghost use Rattle.float32.specs.Bits.{float_of};
+ghost use Rattle.lists.specs.Sets.{afterwards, left, lists_of, set_verdict};
+ghost use Rattle.refusals.specs.Paper.{answered, said, told};
+ghost use Rattle.stored.specs.Fields.{WholeContents, contents_set};
+ghost use Rattle.stored.specs.Layout.{floats_in, list_length, number};
+ghost use Rattle.stored.specs.Stored.{Each};
 
-use crate::layout;
-use crate::layout::{ENTRY, HEAD};
+use crate::fields::{Contents, number};
+use crate::layout::ENTRY;
+use lists::Lists;
+use refusals::Refusal;
 
-pub fn two_at(bytes: &[u8], at: usize) -> usize
-    requires { at + 2 ≤ length bytes.now }
-    ensures value { result ≡ number (take 2 (drop at bytes.now)) }
-    ensures upper_bound { result < 65536 }
+// The entry that stands at index i.
+fn entry(content: &[u8], i: usize) -> f32
+    requires { list_length (i + 1) ≤ length content.now }
+    ensures { result ≡ float_of (number (take 4 (drop (list_length i) content.now))) }
 {
-    let low = bytes[at] as usize;
-    let high = bytes[at + 1] as usize;
-    low + 256 * high
+    let at = ENTRY * i;
+    let bits = u32::from_le_bytes([
+        content[at],
+        content[at + 1],
+        content[at + 2],
+        content[at + 3],
+    ]);
+    float32::from_bits(bits)
 }
 
-// One sum of four products, so that the compiler sees one load.
-fn four_at(bytes: &[u8], at: usize) -> u32
-    requires { at + 4 ≤ length bytes.now }
-    ensures { result ≡ number (take 4 (drop at bytes.now)) }
+// The list that some bytes are.
+fn list(content: &[u8], list: &mut [f32])
+    requires { length content.now ≡ list_length (length list.old) }
+    ensures { list.new ≡ floats_in (length list.old) content.now }
 {
-    bytes[at] as u32
-        + 256 * bytes[at + 1] as u32
-        + 65536 * bytes[at + 2] as u32
-        + 16777216 * bytes[at + 3] as u32
-}
-
-// The list whose content begins at `at`.
-fn list(bytes: &[u8], at: usize, entries: usize, to: &mut [f32])
-    requires entries_in_bounds { at + list_length «entries» ≤ length bytes.now }
-    requires to_len { length to.old ≡ «entries» }
-    ensures { to.new ≡ floats_in «entries» (drop at bytes.now) }
-{
-    let mut i = 0usize;
-    while i < entries {
-        to[i] = float32::from_bits(four_at(bytes, at + ENTRY * i));
-        i += 1;
+    for (i, x) in list.iter_mut().enumerate() {
+        *x = entry(content, i);
     }
 }
 
-// The four lists of a set.
-pub fn lists(
-    bytes: &[u8],
-    entries: usize,
+// All is checked in lists of the call's own before the lent ones are written.
+pub fn set<const N: usize>(
+    contents: Contents<'_>,
     g: &mut [f32],
     h: &mut [f32],
     g_dot: &mut [f32],
     h_dot: &mut [f32],
-)
-    requires entries_in_bounds { stored_length «entries» ≤ length bytes.now }
-    requires each { Each «entries» (lists_of g.old h.old g_dot.old h_dot.old) }
-    ensures { lists_of g.new h.new g_dot.new h_dot.new ≡ (set_of «entries» bytes.now).lists }
+) -> Result<i32, Refusal>
+    requires each { Each N (lists_of g.old h.old g_dot.old h_dot.old) }
+    requires whole { WholeContents N contents }
+    ensures { let s = contents_set N contents.entry in
+        left (said result) (lists_of g.new h.new g_dot.new h_dot.new)
+        ≡ afterwards (told (set_verdict s.lists) (answered s)) (lists_of g.old h.old g_dot.old h_dot.old) }
 {
-    let first = layout::G + HEAD;
-    let n = HEAD + ENTRY * entries;
-    list(bytes, first, entries, g);
-    list(bytes, first + n, entries, h);
-    list(bytes, first + 2 * n, entries, g_dot);
-    list(bytes, first + 3 * n, entries, h_dot);
+    let mut own_g = [0.0f32; N];
+    let mut own_h = [0.0f32; N];
+    let mut own_g_dot = [0.0f32; N];
+    let mut own_h_dot = [0.0f32; N];
+    list(contents.g, &mut own_g);
+    list(contents.h, &mut own_h);
+    list(contents.g_dot, &mut own_g_dot);
+    list(contents.h_dot, &mut own_h_dot);
+    let own = Lists {
+        g: &own_g,
+        h: &own_h,
+        g_dot: &own_g_dot,
+        h_dot: &own_h_dot,
+    };
+    own.check_caps()?;
+    g.copy_from_slice(&own_g);
+    h.copy_from_slice(&own_h);
+    g_dot.copy_from_slice(&own_g_dot);
+    h_dot.copy_from_slice(&own_h_dot);
+    Ok(i32::from(number(contents.epoch_year)))
 }

@@ -25,20 +25,21 @@ use Rattle.refusals.specs.declared.Refusal.TheVariants.{Latitude, Longitude, Unu
 use Rattle.refusals.proofs.Laws.{passed, answered_one}
 use Rattle.roots.specs.Root.{clear}
 use Rattle.roots.proofs.Signs.{clear_round}
-use Rattle.strengths.specs.Grid.{d55, d90, d180, d360, crate_wrapped, wrapped, Variation, degrees, absent, variation_by, variation_of, grid_says}
+use Rattle.std.specs.Prelude.{Option, Some, None}
+use Rattle.strengths.specs.Grid.{d55, d90, d180, d360, crate_wrapped, wrapped, variation_by, variation_of, grid_says}
 use Rattle.strengths.proofs.NeverMinus180.{never_minus_180}
 
 -- an angle of -180
-abbrev pub south : Variation → Bool
-south (degrees v) = eq v (neg d180)
-south absent = false
+abbrev pub south : Option Float → Bool
+south (Some v) = eq v (neg d180)
+south None = false
 
 -- what holds of the sum in the north, of the sum in the south and of none, under any wraps, holds of the variations
-by_place : (lat lon d : Float) (P : ((Float → Float) → Variation) → Type 0) → P (λ w. degrees (w (sub binary32 d lon))) → P (λ w. degrees (w (add binary32 d lon))) → P (λ w. absent) → P (λ w. variation_by w lat lon d)
+by_place : (lat lon d : Float) (P : ((Float → Float) → Option Float) → Type 0) → P (λ w. Some (w (sub binary32 d lon))) → P (λ w. Some (w (add binary32 d lon))) → P (λ w. None) → P (λ w. variation_by w lat lon d)
 unfolding variation_by
 by_place lat lon d P n s a = go (le d55 lat) (le lat (neg d55))
   where
-    go : (b c : Bool) → P (λ w. cond b (degrees (w (sub binary32 d lon))) (cond c (degrees (w (add binary32 d lon))) absent))
+    go : (b c : Bool) → P (λ w. cond b (Some (w (sub binary32 d lon))) (cond c (Some (w (add binary32 d lon))) None))
     go true c = n
     go false true = s
     go false false = a
@@ -49,7 +50,7 @@ unfolding variation_of
 never_south lat lon d = by_place lat lon d (λ v. south (v wrapped) ≡ false) (never_minus_180 (sub binary32 d lon)) (never_minus_180 (add binary32 d lon)) refl
 
 -- what an answer has passed, and what it is
-answered_is : (lat lon d : Float) (v : Variation) → grid_says lat lon d ≡ answered v → T (between (neg d180) d180 lon) × T (between (neg d180) d180 d) × (variation_of lat lon d ≡ v)
+answered_is : (lat lon d : Float) (v : Option Float) → grid_says lat lon d ≡ answered v → T (between (neg d180) d180 lon) × T (between (neg d180) d180 d) × (variation_of lat lon d ≡ v)
 unfolding grid_says
 answered_is lat lon d v e =
     let p = passed (between (neg d90) d90 lat) Latitude _ v e in
@@ -57,22 +58,22 @@ answered_is lat lon d v e =
     let r = passed (between (neg d180) d180 d) Unusable _ v q.1 in
     (subst T (sym q.0) tt, subst T (sym r.0) tt, answered_one (variation_of lat lon d) v r.1)
 
-pub no_answer_south : (lat lon d : Float) (v : Variation) → grid_says lat lon d ≡ answered v → south v ≡ false
-no_answer_south lat lon d v e = subst (λ (w : Variation). south w ≡ false) (answered_is lat lon d v e).2 (never_south lat lon d)
+pub no_answer_south : (lat lon d : Float) (v : Option Float) → grid_says lat lon d ≡ answered v → south v ≡ false
+no_answer_south lat lon d v e = subst (λ (w : Option Float). south w ≡ false) (answered_is lat lon d v e).2 (never_south lat lon d)
 
 -- ---- ours is 180 where the crate's is -180, and else it is the crate's
-wrapped_as : (x : Float) → degrees (wrapped x) ≡ cond (eq (crate_wrapped x) (neg d180)) (degrees d180) (degrees (crate_wrapped x))
+wrapped_as : (x : Float) → Some (wrapped x) ≡ cond (eq (crate_wrapped x) (neg d180)) (Some d180) (Some (crate_wrapped x))
 unfolding wrapped
 wrapped_as x = go (eq (crate_wrapped x) (neg d180))
   where
-    go : (b : Bool) → degrees (cond b d180 (crate_wrapped x)) ≡ cond b (degrees d180) (degrees (crate_wrapped x))
+    go : (b : Bool) → Some (cond b d180 (crate_wrapped x)) ≡ cond b (Some d180) (Some (crate_wrapped x))
     go true = refl
     go false = refl
 
-pub as_the_crate : (lat lon d : Float) → variation_of lat lon d ≡ cond (south (variation_by crate_wrapped lat lon d)) (degrees d180) (variation_by crate_wrapped lat lon d)
+pub as_the_crate : (lat lon d : Float) → variation_of lat lon d ≡ cond (south (variation_by crate_wrapped lat lon d)) (Some d180) (variation_by crate_wrapped lat lon d)
 unfolding variation_of
 as_the_crate lat lon d =
-    by_place lat lon d (λ v. v wrapped ≡ cond (south (v crate_wrapped)) (degrees d180) (v crate_wrapped)) (wrapped_as (sub binary32 d lon)) (wrapped_as (add binary32 d lon)) refl
+    by_place lat lon d (λ v. v wrapped ≡ cond (south (v crate_wrapped)) (Some d180) (v crate_wrapped)) (wrapped_as (sub binary32 d lon)) (wrapped_as (add binary32 d lon)) refl
 
 -- ---- and the crate's is -180 exactly where the sum is
 -- a number without a minus is not -180
@@ -210,17 +211,17 @@ module _ (lon d : Float) (t : T (between (neg d180) d180 lon)) (u : T (between (
       (wrapped_south (sub binary32 d lon) (sub-fits binary32 d lon) minus).1 (wrapped_south (add binary32 d lon) (add-fits binary32 d lon) plus).1 refl
 
 -- so an answer is the crate's, but 180 where the sum, rounded once, is -180
-pub where_changed : (lat lon d : Float) (v : Variation) → grid_says lat lon d ≡ answered v → v ≡ cond (south (variation_by (λ x. x) lat lon d)) (degrees d180) (variation_by crate_wrapped lat lon d)
+pub where_changed : (lat lon d : Float) (v : Option Float) → grid_says lat lon d ≡ answered v → v ≡ cond (south (variation_by (λ x. x) lat lon d)) (Some d180) (variation_by crate_wrapped lat lon d)
 where_changed lat lon d v e =
     let p = answered_is lat lon d v e in
-    sym p.2 ∙ as_the_crate lat lon d ∙ ap (λ (b : Bool). cond b (degrees d180) (variation_by crate_wrapped lat lon d)) (south_where lon d p.0 p.1 lat)
+    sym p.2 ∙ as_the_crate lat lon d ∙ ap (λ (b : Bool). cond b (Some d180) (variation_by crate_wrapped lat lon d)) (south_where lon d p.0 p.1 lat)
 
 -- ---- a grid variation lies above -180 and up to 180
-abbrev pub in_turn : Variation → Bool
-in_turn (degrees v) = lt (neg d180) v && le v d180
-in_turn absent = true
+abbrev pub in_turn : Option Float → Bool
+in_turn (Some v) = lt (neg d180) v && le v d180
+in_turn None = true
 
-inside : (v : Float) → Inside v → T (in_turn (degrees v))
+inside : (v : Float) → Inside v → T (in_turn (Some v))
 unfolding lt le eq neg of_bits
 inside nan i = absurd i.0.0
 inside (inf s) i = absurd i.0.0
@@ -233,17 +234,17 @@ inside (fin true m e) i =
     other : m * up e * 1 ≡ 180 * down e → ⊥
     other h = true≢false (sym (ap (λ (b : Bool). b && true) (is_true (eqb (m * up e * 1) (180 * down e)) (eq→eqb h))) ∙ i.1)
 
-wrapped_inside : (x : Float) → T (fits binary32 x) → Fit 360 x → T (in_turn (degrees (wrapped x)))
+wrapped_inside : (x : Float) → T (fits binary32 x) → Fit 360 x → T (in_turn (Some (wrapped x)))
 unfolding wrapped
 wrapped_inside x f g = go (eq (crate_wrapped x) (neg d180)) refl
   where
-    go : (b : Bool) → eq (crate_wrapped x) (neg d180) ≡ b → T (in_turn (degrees (cond b d180 (crate_wrapped x))))
+    go : (b : Bool) → eq (crate_wrapped x) (neg d180) ≡ b → T (in_turn (Some (cond b d180 (crate_wrapped x))))
     go true e = unfold lt le eq neg of_bits in tt
     go false e = inside (crate_wrapped x) ((wrapped_south x f g).0, e)
 
-pub in_range : (lat lon d : Float) (v : Variation) → grid_says lat lon d ≡ answered v → T (in_turn v)
+pub in_range : (lat lon d : Float) (v : Option Float) → grid_says lat lon d ≡ answered v → T (in_turn v)
 unfolding variation_of
 in_range lat lon d v e =
     let p = answered_is lat lon d v e in
-    subst (λ (w : Variation). T (in_turn w)) p.2
+    subst (λ (w : Option Float). T (in_turn w)) p.2
     (by_place lat lon d (λ w. T (in_turn (w wrapped))) (wrapped_inside (sub binary32 d lon) (sub-fits binary32 d lon) (minus lon d p.0 p.1)) (wrapped_inside (add binary32 d lon) (add-fits binary32 d lon) (plus lon d p.0 p.1)) tt)

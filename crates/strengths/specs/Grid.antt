@@ -1,12 +1,10 @@
 -- Grid variation (document 01, module 9; document 02, Wish 5; MIL-PRF-89500B, A.2.6). Definitions only.
-use Rattle.std.specs.Prelude.{cond, Float}
+use Rattle.std.specs.Prelude.{cond, Float, Option, Some, None}
 use Rattle.std.specs.Float.{binary32}
 use Rattle.std.specs.Float.Ieee.{of_bits, neg, add, sub, le, lt, eq}
 use Rattle.exact.specs.Tests.{between}
 use Rattle.refusals.specs.Paper.{Paper, answered, paper, unless}
 use Rattle.refusals.specs.declared.Refusal.TheVariants.{Latitude, Longitude, Unusable}
-use Rattle.strengths.specs.declared.grid.GridAnswer.{GridAnswer}
-use Rattle.strengths.specs.declared.grid.GridAnswer.TheVariants as Grid
 
 -- 55, 90, 180 and 360 degrees
 abbrev pub d55 : Float
@@ -29,30 +27,19 @@ crate_wrapped x = cond (lt d180 x) (sub binary32 x d360) (cond (lt x (neg d180))
 unfoldable pub wrapped : Float → Float
 wrapped x = cond (eq (crate_wrapped x) (neg d180)) d180 (crate_wrapped x)
 
--- an angle, or none
-pub data Variation : Type 0 where
-  degrees : Float → Variation
-  absent : Variation
-
 -- declination minus longitude from 55 degrees north on, plus longitude from 55 degrees south on, then a wrap; else none
-unfoldable pub variation_by : (Float → Float) → Float → Float → Float → Variation
+unfoldable pub variation_by : (Float → Float) → Float → Float → Float → Option Float
 variation_by wrap lat lon d =
-    cond (le d55 lat) (degrees (wrap (sub binary32 d lon)))
-    (cond (le lat (neg d55)) (degrees (wrap (add binary32 d lon))) absent)
+    cond (le d55 lat) (Some (wrap (sub binary32 d lon)))
+    (cond (le lat (neg d55)) (Some (wrap (add binary32 d lon))) None)
 
 -- the grid variation: the wrap is `wrap_to_180`
-unfoldable pub variation_of : Float → Float → Float → Variation
+unfoldable pub variation_of : Float → Float → Float → Option Float
 unfolding variation_by
 variation_of lat lon d = variation_by wrapped lat lon d
 
--- the paper's number and value of each case
-abbrev pub grid_said : GridAnswer → Paper Variation
-grid_said (Grid.Variation x) = answered (degrees x)
-grid_said Grid.Absent = answered absent
-grid_said (Grid.Refused k) = paper k
-
 -- refusals 2, 3, 12, then the answer
-unfoldable pub grid_says : Float → Float → Float → Paper Variation
+unfoldable pub grid_says : Float → Float → Float → Paper (Option Float)
 grid_says lat lon d =
     unless (between (neg d90) d90 lat) (paper Latitude)
     (unless (between (neg d180) d180 lon) (paper Longitude)

@@ -1,5 +1,5 @@
 -- The strengths over a field record (document 01, module 9; WMM2025 TR, sections 1.8 and 3.4). Definitions only.
-use Rattle.std.specs.Prelude.{Bool, ◌&&◌, cond, List, ℤ, Float}
+use Rattle.std.specs.Prelude.{Bool, ◌&&◌, cond, List, ℤ, Float, Option, Some, None}
 use Rattle.std.specs.Float.{binary32}
 use Rattle.std.specs.Float.Ieee.{of_bits, add, mul, div, lt}
 use Rattle.exact.specs.Tests.{capped}
@@ -11,10 +11,8 @@ use Rattle.models.specs.declared.records.ErrorRecord.{ErrorRecord}
 use Rattle.models.specs.Records.{listed_errors}
 use Rattle.models.specs.Errors.{error_says}
 use Rattle.strengths.specs.declared.GeomagneticField.{GeomagneticField}
-use Rattle.strengths.specs.declared.StrengthAnswer.{StrengthAnswer}
-use Rattle.strengths.specs.declared.StrengthAnswer.TheVariants as Strength
-use Rattle.strengths.specs.declared.ZoneAnswer.{ZoneAnswer}
-use Rattle.strengths.specs.declared.ZoneAnswer.TheVariants as Zone
+use Rattle.strengths.specs.declared.WarningZone.{WarningZone}
+use Rattle.strengths.specs.declared.WarningZone.TheVariants.{Blackout, Caution}
 
 -- the largest size of a component: 2 ^ 60
 abbrev pub max_component : Float
@@ -47,33 +45,16 @@ h_of v = hypot_of v.x v.y
 unfoldable pub f_of : GeomagneticField → Float
 f_of v = hypot_of (h_of v) v.z
 
--- the paper's number and value of each case
-abbrev pub strength_said : StrengthAnswer → Paper Float
-strength_said (Strength.Strength x) = answered x
-strength_said (Strength.Refused k) = paper k
-
 -- refusal 12, or the strength
 unfoldable pub strength_says : GeomagneticField → Float → Paper Float
 strength_says v x = unless (usable v) (paper Unusable) (answered x)
 
--- a zone, or none
-pub data Warning : Type 0 where
-  blackout : Warning
-  caution : Warning
-  no_zone : Warning
-
 -- H strictly below 2000 is Blackout, else strictly below 6000 Caution, else no zone
-unfoldable pub zone_of : Float → Warning
-zone_of h = cond (lt h (of_bits binary32 0x44fa0000)) blackout (cond (lt h (of_bits binary32 0x45bb8000)) caution no_zone)
-
-abbrev pub zone_said : ZoneAnswer → Paper Warning
-zone_said Zone.Blackout = answered blackout
-zone_said Zone.Caution = answered caution
-zone_said Zone.NoZone = answered no_zone
-zone_said (Zone.Refused k) = paper k
+unfoldable pub zone_of : Float → Option WarningZone
+zone_of h = cond (lt h (of_bits binary32 0x44fa0000)) (Some Blackout) (cond (lt h (of_bits binary32 0x45bb8000)) (Some Caution) None)
 
 -- refusal 12, or the zone
-unfoldable pub zone_says : GeomagneticField → Paper Warning
+unfoldable pub zone_says : GeomagneticField → Paper (Option WarningZone)
 zone_says v = unless (usable v) (paper Unusable) (answered (zone_of (h_of v)))
 
 -- u if below 180, else 180

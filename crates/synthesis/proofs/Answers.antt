@@ -9,17 +9,15 @@ use Rattle.tables.specs.Degree.{degree_of}
 use Rattle.tables.proofs.Degrees.{degree_high, degree_low}
 use lib.Ieee.{Float, binary32, of_bits, lt, div}
 use lib.Ieee.Bits.{is_true}
-use Rattle.refusals.specs.Paper.{Paper, answered, paper, told}
-use Rattle.refusals.proofs.Laws.{both_accepted, paper_one, no_answer, answered_one, told_answered}
+use Rattle.refusals.specs.Paper.{Paper, Verdict, accepted, answered, paper, said, told}
+use Rattle.refusals.proofs.Laws.{both_accepted, answered_one, said_one, told_answered}
 use Rattle.refusals.specs.declared.Refusal.{Refusal}
-use Rattle.refusals.specs.declared.Verdict.{Verdict}
+use Rattle.std.specs.Prelude.{Ok, Err, Result}
 use Rattle.lists.specs.Lists.{Long, lengths_verdict, lists_verdict}
-use Rattle.lists.proofs.Checked.{listed}
+use Rattle.lists.proofs.Checked.{lengths_long, listed, same}
 use Rattle.synthesis.proofs.NumberChecks.{numbered}
 use Rattle.synthesis.specs.declared.Xyz.{Xyz}
-use Rattle.synthesis.specs.declared.SumAnswer.{SumAnswer}
-use Rattle.synthesis.specs.declared.SumAnswer.TheVariants as Answer
-use Rattle.synthesis.specs.Sum.{Lent, SumAccepted, SumClose, degree, inputs, numbers_verdict, offset_ok, ratio_ok, said, sum_says, summed_says, uncapped_says, value_of}
+use Rattle.synthesis.specs.Sum.{Lent, SumAccepted, SumClose, degree, inputs, numbers_verdict, offset_ok, ratio_ok, sum_says, summed_says, uncapped_says, value_of}
 use Rattle.sums.specs.Paths.{placed, small_sine}
 use Rattle.synthesis.proofs.Demand.{close}
 use Rattle.synthesis.specs.Code.{OfDegree, general, near_pole}
@@ -61,25 +59,33 @@ says_by_lem true a = refl
 says_by_lem false a = refl
 
 module _ (look : Bool) (a : Lent) where
-  pub refused_numbers : (k : Refusal) → of_numbers a ≡ Verdict.Refused k → paper k ≡ says_by look a
+  pub refused_numbers : (k : Refusal) → of_numbers a ≡ Err k → paper k ≡ says_by look a
   refused_numbers k e = rw (says_by_lem look a, e)
 
-  module _ (n : of_numbers a ≡ Verdict.Accepted) where
-    pub refused_lists : (k : Refusal) → of_lists_by look a ≡ Verdict.Refused k → paper k ≡ says_by look a
+  module _ (n : of_numbers a ≡ accepted) where
+    pub refused_lists : (k : Refusal) → of_lists_by look a ≡ Err k → paper k ≡ says_by look a
     refused_lists k e = rw (says_by_lem look a, n, e)
 
-    pub summed : of_lists_by look a ≡ Verdict.Accepted → (x : Xyz) → x ≡ value_of a → answered x ≡ says_by look a
+    pub summed : of_lists_by look a ≡ accepted → (x : Xyz) → x ≡ value_of a → answered x ≡ says_by look a
     summed e x h = rw (says_by_lem look a, n, e, h)
 
+-- lists that pass are of one degree, as a call tells it
+module _ (v : Verdict) (g h gd hd : List Float) where
+  pub long_of : v ≡ lists_verdict g h gd hd → v ≡ accepted → Long g h gd hd
+  long_of r e = (listed g h gd hd (same r e)).long
+
+  pub long_of_lengths : v ≡ lengths_verdict g h gd hd → v ≡ accepted → Long g h gd hd
+  long_of_lengths r e = lengths_long g h gd hd (same r e)
+
 -- lists that neither refuses are of one degree
-pub lengths_by : (look : Bool) (a : Lent) → of_lists_by look a ≡ Verdict.Accepted → lengths_verdict a.g a.h a.g_dot a.h_dot ≡ Verdict.Accepted
+pub lengths_by : (look : Bool) (a : Lent) → of_lists_by look a ≡ accepted → lengths_verdict a.g a.h a.g_dot a.h_dot ≡ accepted
 unfolding lists_verdict
 lengths_by true a e = (both_accepted (lengths_verdict a.g a.h a.g_dot a.h_dot) _ e).0
 lengths_by false a e = e
 
 module _ (a : Lent) where
   -- where the lists pass, it makes no difference whether they are looked at
-  pub uncapped_same : of_lists a ≡ Verdict.Accepted → uncapped_says a ≡ sum_says a
+  pub uncapped_same : of_lists a ≡ accepted → uncapped_says a ≡ sum_says a
   unfolding sum_says uncapped_says
   uncapped_same e = rw (lengths_by true a e, e) refl
 
@@ -91,8 +97,8 @@ module _ (a : Lent) where
 
 -- ---- what an answer says of what is lent
 -- what passed both groups of checks
-pub accepted : (a : Lent) → of_numbers a ≡ Verdict.Accepted → of_lists a ≡ Verdict.Accepted → SumAccepted a
-accepted a n e =
+pub passed : (a : Lent) → of_numbers a ≡ accepted → of_lists a ≡ accepted → SumAccepted a
+passed a n e =
     let m = numbered a.cos_theta a.sin_theta a.sin_lambda a.cos_lambda a.ratio a.offset n in
     let w = listed a.g a.h a.g_dot a.h_dot e in
     record {
@@ -111,20 +117,19 @@ unfolding sum_says
 answer_accepted a v e =
     let p = told_answered (of_numbers a) _ v e in
     let q = told_answered (of_lists a) _ v p.1 in
-    (accepted a p.0 q.0, answered_one (value_of a) v q.1)
+    (passed a p.0 q.0, answered_one (value_of a) v q.1)
 
 -- demand 3: an answer lies close to the exact sums
-pub answer_close : (a : Lent) (r : SumAnswer) → said r ≡ sum_says a → (v : Xyz) → r ≡ Answer.Sum v → SumClose a v
+pub answer_close : (a : Lent) (r : Result Xyz Refusal) → said r ≡ sum_says a → (v : Xyz) → r ≡ Ok v → SumClose a v
 answer_close a r e v h =
     let u = answer_accepted a v (sym e ∙ ap said h) in
     subst (λ (x : Xyz). SumClose a x) u.1 (close a u.0)
 
+-- the same, as the code comes to it
+pub checked_close : (a : Lent) (checked : Verdict) (r : Result Xyz Refusal) → checked ≡ of_lists a → said r ≡ summed_says checked a → (v : Xyz) → r ≡ Ok v → SumClose a v
+unfolding sum_says
+checked_close a checked r c e = answer_close a r (e ∙ ap (λ (w : Verdict). summed_says w a) c)
+
 -- any two answers that the contract allows are equal
-pub sum_answer_one : (p : Paper Xyz) (r s : SumAnswer) → said r ≡ p → said s ≡ p → r ≡ s
-sum_answer_one p r s e f = go r s (e ∙ sym f)
-  where
-    go : (r s : SumAnswer) → said r ≡ said s → r ≡ s
-    go (Answer.Sum v) (Answer.Sum w) h = ap Answer.Sum (answered_one v w h)
-    go (Answer.Sum v) (Answer.Refused k) h = absurd (no_answer k v (sym h))
-    go (Answer.Refused k) (Answer.Sum v) h = absurd (no_answer k v h)
-    go (Answer.Refused k) (Answer.Refused l) h = ap Answer.Refused (paper_one k l h)
+pub sum_answer_one : (p : Paper Xyz) (r s : Result Xyz Refusal) → said r ≡ p → said s ≡ p → r ≡ s
+sum_answer_one p r s e f = said_one r s (e ∙ sym f)

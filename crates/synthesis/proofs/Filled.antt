@@ -1,14 +1,21 @@
--- A list that a loop fills from its start: the angles, and the start values.
-use mathlib.Core.Path.{◌≡◌, refl, ap}
+-- A list that a loop fills from its start: the angles, and the start values; and the weights.
+use mathlib.Core.Path.{◌≡◌, refl, ap, ◌∙◌}
+use mathlib.Core.Bool.{cond}
+use mathlib.Core.Logic.{⊎_elim}
+use borrow.Author.Tests.{le-ltb, lt-ltb}
+use lib.Dec.{ltb}
+use lib.Seq.{get_or-append_right}
+use Rattle.tables.specs.Degree.{N_MAX}
+use Rattle.sums.proofs.Step.{less_or}
 use mathlib.Core.List.{List, [], ◌∷◌, ◌++◌}
-use Prim.Native.Nat.{ℕ, zero, suc, ◌+◌, ◌-◌, ◌<◌}
+use Prim.Native.Nat.{ℕ, zero, suc, ◌+◌, ◌-◌, ◌<◌, ◌≤◌}
 use native.Mathlib.Nat.{le_of_suc-le-suc, not-suc-le-zero}
 use native.Mathlib.Numerals.{add-one}
 use native.Mathlib.Omega.{arith}
-use lib.ListN.{length, get_or, set, drop}
+use lib.ListN.{length, get_or, set, drop, replicate, get_or-append, get_or-replicate}
 use lib.Ieee.{Float, nan, binary32, add, sub, mul}
 use Rattle.sums.specs.Recurrence.{angle}
-use Rattle.synthesis.specs.Code.{cos_at, first, sin_at, start_at}
+use Rattle.synthesis.specs.Code.{W_LEN, cos_at, first, sin_at, start_at}
 use Rattle.sums.specs.Arithmetic.{rounded}
 
 pub first_more : (f : ℕ → Float) (m : ℕ) (d : List Float) → m < length d → set (first f m ++ drop m d) m (f m) ≡ first f (suc m) ++ drop (suc m) d
@@ -77,3 +84,13 @@ module _ (c s : Float) (l₁ l₂ d₁ d₂ : List Float) where
       let v : suc k - 1 ≡ k = omega arith in
       let w : k < suc k = omega arith in
       rw (e₁, e₂, v, add-one, first_at p_at (suc k) k (drop (suc k) d₁) w, first_at dp_at (suc k) k (drop (suc k) d₂) w) (first_more dp_at (suc k) d₂ h)
+
+-- one number in the first half of the weights, another in the second
+pub below_at : (below then : Float) (j : ℕ) → j < W_LEN → get_or (replicate N_MAX below ++ replicate N_MAX then) j nan ≡ cond (ltb j N_MAX) below then
+below_at below then j h =
+    let l : List Float = replicate N_MAX below in
+    let r : List Float = replicate N_MAX then in
+    ⊎_elim
+    (λ (a : j < N_MAX). get_or-append l r nan j a ∙ get_or-replicate N_MAX j below nan a ∙ rw (lt-ltb j N_MAX a) refl)
+    (λ (a : N_MAX ≤ j). get_or-append_right l r j nan a ∙ get_or-replicate N_MAX (j - N_MAX) then nan (omega arith) ∙ rw (le-ltb j N_MAX a) refl)
+    (less_or j N_MAX)

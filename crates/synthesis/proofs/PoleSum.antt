@@ -19,8 +19,11 @@ use Rattle.synthesis.specs.declared.Xyz.{Xyz}
 use Rattle.sums.specs.Arithmetic.{pair, rounded}
 use Rattle.sums.specs.Recurrence.{Input, dpsn, legendre, lit, pole_angle, pole_east, pole_gc, pole_gs, pole_x, pole_x_row, pole_y, pole_z, pole_z_row, power, psn, quotient, total}
 use Rattle.sums.specs.Paths.{POLE_ORDERS, placed}
-use Rattle.synthesis.specs.Sum.{Lent, inputs}
-use Rattle.synthesis.specs.Code.{OfDegree, add_pole_degree, gh_at, near_pole, next_q, next_row, pdp, pole_parts, term_of}
+use Rattle.synthesis.specs.declared.Colatitude.{Colatitude}
+use Rattle.synthesis.specs.declared.Longitude.{Longitude}
+use Rattle.synthesis.specs.declared.date.Dated.{Dated}
+use Rattle.synthesis.specs.Sum.{Lent, inputs, lent_at}
+use Rattle.synthesis.specs.Code.{ListsOf, add_pole_degree, gh_at, near_pole, next_q, next_row, pdp, pole_parts, term_of}
 use Rattle.exact.proofs.Wholes.{lit_one, lit_zero}
 use Rattle.synthesis.proofs.GeneralSum.{g_read, h_read, s_place}
 use Rattle.synthesis.proofs.PlaceSizes.{most}
@@ -56,9 +59,14 @@ more_degrees : (i : Input Float) (n : ℕ) → add_pole_degree (near_pole i n) (
 unfolding add_pole_degree pole_x pole_y pole_z total rounded
 more_degrees i n = refl
 
+-- what is lent, as the code holds it
+abbrev asked : Colatitude → Longitude → Float → Dated → Lent
+asked c l ratio d = lent_at c l ratio d.offset d.lists
+
 -- the coefficients of degree n and order m, from the lists
-dates : (a : Lent) (top n m j : ℕ) → OfDegree top a.g a.h a.g_dot a.h_dot → 0 < n → n ≤ top → m ≤ n → j ≡ place n m - 1 → gh_at a.g a.h a.g_dot a.h_dot a.offset j ≡ gh ((inputs rounded a).g n m) ((inputs rounded a).h n m)
-dates a top n m j L z hn hm e = ap₂ gh (g_read a top n m j L z hn hm e) (h_read a top n m j L z hn hm e)
+dates : (c : Colatitude) (l : Longitude) (ratio : Float) (d : Dated) (top n m j : ℕ) → ListsOf top d.lists → 0 < n → n ≤ top → m ≤ n → j ≡ place n m - 1
+    → gh_at d j ≡ gh ((inputs rounded (asked c l ratio d)).g n m) ((inputs rounded (asked c l ratio d)).h n m)
+dates c l ratio d top n m j L z hn hm e = let a = asked c l ratio d in ap₂ gh (g_read a top n m j L z hn hm e) (h_read a top n m j L z hn hm e)
 
 -- ---- the factors of the orders 0 and 1
 -- those of degree 1 are 0
@@ -88,23 +96,23 @@ unfolding inputs placed power quotient legendre row_before rounded pole_x pole_y
 start a = record { prev1_is = rw (lit_zero, lit_one); prev2_is = rw (lit_zero, lit_one); ar_is = refl; tot_is = rw lit_zero }
 
 -- the next degree; its order 0 stands at place j of the tables
-next : (a : Lent) (top n j : ℕ) (ss : List Float) (prev1 prev2 new : PoleRow) (ar : Float) (tot tot' v : Xyz)
-    → OfDegree top a.g a.h a.g_dot a.h_dot → suc n ≤ top → j ≡ place (suc n) 0 → ss ≡ schmidt_table → Outer a n prev1 prev2 ar tot
-    → new ≡ next_row (suc n) (k_of (suc n) 0) (k_of (suc n) 1) a.cos_theta a.sin_theta prev1 prev2
-    → v ≡ pole_parts new (gh_at a.g a.h a.g_dot a.h_dot a.offset (j - 1)) (gh_at a.g a.h a.g_dot a.h_dot a.offset j) (get_or ss j nan) (get_or ss (j + 1) nan) (record { sin = a.sin_lambda; cos = a.cos_lambda }) ar
+next : (c : Colatitude) (l : Longitude) (ratio : Float) (d : Dated) (top n j : ℕ) (ss : List Float) (prev1 prev2 new : PoleRow) (ar : Float) (tot tot' v : Xyz)
+    → ListsOf top d.lists → suc n ≤ top → j ≡ place (suc n) 0 → ss ≡ schmidt_table → Outer (asked c l ratio d) n prev1 prev2 ar tot
+    → new ≡ next_row (suc n) (k_of (suc n) 0) (k_of (suc n) 1) c.cos c.sin prev1 prev2
+    → v ≡ pole_parts new (gh_at d (j - 1)) (gh_at d j) (get_or ss j nan) (get_or ss (j + 1) nan) (record { sin = l.sin; cos = l.cos }) ar
     → tot' ≡ add_pole_degree tot (suc n) ar v
-    → Outer a (suc n) new prev1 (mul binary32 ar a.ratio) tot'
+    → Outer (asked c l ratio d) (suc n) new prev1 (mul binary32 ar ratio) tot'
 unfolding inputs placed power row_before rounded
-next a top n j ss prev1 prev2 new ar tot tot' v L ht ej es o en ev et =
-    let i = inputs rounded a in
+next c l ratio d top n j ss prev1 prev2 new ar tot tot' v L ht ej es o en ev et =
+    let i = inputs rounded (asked c l ratio d) in
     let z : 0 < suc n = omega arith in
     let hn : suc n < M_LEN = omega (arith, L.1) in
     let h1 : 1 ≤ suc n = omega arith in
     let p0 : (j ≡ place (suc n) 0) × (j < N_LEGENDRE) = (ej, omega (arith, most (suc n) hn)) in
     let p1 : (j + 1 ≡ place (suc n) 1) × (j + 1 < N_LEGENDRE) = (omega arith, omega (arith, most (suc n) hn)) in
     let er : new ≡ row i (suc n) = en ∙ rw (o.prev1_is, o.prev2_is) (next_row_lem i n) in
-    let d0 = dates a top (suc n) 0 (j - 1) L z ht (omega arith) (omega arith) in
-    let d1 = dates a top (suc n) 1 j L z ht h1 (omega arith) in
+    let d0 = dates c l ratio d top (suc n) 0 (j - 1) L z ht (omega arith) (omega arith) in
+    let d1 = dates c l ratio d top (suc n) 1 j L z ht h1 (omega arith) in
     let ep : v ≡ parts i (suc n) (power rounded i n) = ev ∙ rw (er, d0, d1, s_place ss j (suc n) 0 es p0, s_place ss (j + 1) (suc n) 1 es p1, o.ar_is) (parts_are i (suc n) (power rounded i n)) in
     record {
       prev1_is = er;
@@ -113,14 +121,14 @@ next a top n j ss prev1 prev2 new ar tot tot' v L ht ej es o en ev et =
       tot_is = et ∙ rw (o.tot_is, o.ar_is, ep) (more_degrees i n);
     }
 
-pub next_degree : (a : Lent) (top n j : ℕ) (ss : List Float) (prev1 prev2 new : PoleRow) (ar : Float) (tot tot' v : Xyz)
-    → 0 < n → OfDegree top a.g a.h a.g_dot a.h_dot → n ≤ top → j ≡ place n 0 → ss ≡ schmidt_table → Outer a (n - 1) prev1 prev2 ar tot
-    → new ≡ next_row n (k_of n 0) (k_of n 1) a.cos_theta a.sin_theta prev1 prev2
-    → v ≡ pole_parts new (gh_at a.g a.h a.g_dot a.h_dot a.offset (j - 1)) (gh_at a.g a.h a.g_dot a.h_dot a.offset j) (get_or ss j nan) (get_or ss (j + 1) nan) (record { sin = a.sin_lambda; cos = a.cos_lambda }) ar
+pub next_degree : (c : Colatitude) (l : Longitude) (ratio : Float) (d : Dated) (top n j : ℕ) (ss : List Float) (prev1 prev2 new : PoleRow) (ar : Float) (tot tot' v : Xyz)
+    → 0 < n → ListsOf top d.lists → n ≤ top → j ≡ place n 0 → ss ≡ schmidt_table → Outer (asked c l ratio d) (n - 1) prev1 prev2 ar tot
+    → new ≡ next_row n (k_of n 0) (k_of n 1) c.cos c.sin prev1 prev2
+    → v ≡ pole_parts new (gh_at d (j - 1)) (gh_at d j) (get_or ss j nan) (get_or ss (j + 1) nan) (record { sin = l.sin; cos = l.cos }) ar
     → tot' ≡ add_pole_degree tot n ar v
-    → Outer a (n + 1 - 1) new prev1 (mul binary32 ar a.ratio) tot'
-next_degree a top zero j ss prev1 prev2 new ar tot tot' v z L hn ej es o en ev et = absurd (not-suc-le-zero z)
-next_degree a top (suc n) j ss prev1 prev2 new ar tot tot' v z L hn ej es o en ev et =
+    → Outer (asked c l ratio d) (n + 1 - 1) new prev1 (mul binary32 ar ratio) tot'
+next_degree c l ratio d top zero j ss prev1 prev2 new ar tot tot' v z L hn ej es o en ev et = absurd (not-suc-le-zero z)
+next_degree c l ratio d top (suc n) j ss prev1 prev2 new ar tot tot' v z L hn ej es o en ev et =
     let u : suc n + 1 - 1 ≡ suc n = omega arith in
     let w : suc n - 1 ≡ n = omega arith in
-    rw u (next a top n j ss prev1 prev2 new ar tot tot' v L hn ej es (rw w at o) en ev et)
+    rw u (next c l ratio d top n j ss prev1 prev2 new ar tot tot' v L hn ej es (rw w at o) en ev et)

@@ -1,6 +1,6 @@
--- Three rows: what a store changes, and what a rotation does.
-use mathlib.Core.Path.{◌≡◌, sym, ap, ◌∙◌}
-use mathlib.Core.List.{List, []}
+-- Three rows, and the terms: what a store changes, and what a rotation does.
+use mathlib.Core.Path.{◌≡◌, refl, sym, ap, ◌∙◌}
+use mathlib.Core.List.{List, [], ◌∷◌}
 use mathlib.Core.Logic.{⊎_elim}
 use Prim.Native.Nat.{ℕ, ◌+◌, ◌<◌}
 use native.Mathlib.Omega.{arith}
@@ -11,7 +11,10 @@ use Rattle.synthesis.specs.declared.rows.Places.{Places}
 use Rattle.synthesis.specs.declared.Xyz.{Xyz}
 use Rattle.tables.specs.Degree.{N_LEGENDRE}
 use Rattle.sums.proofs.Step.{same_or}
-use Rattle.synthesis.specs.Code.{Apart, Sized, cell, cell_xyz, put, put4, put_term, rotated}
+use Rattle.synthesis.specs.declared.terms.Terms.{Terms}
+use Rattle.synthesis.specs.declared.rows.PDp.{PDp}
+use Rattle.synthesis.specs.declared.rows.Rows.{Rows}
+use Rattle.synthesis.specs.Code.{Apart, Sized, Wide, cell, cell_xyz, put, put_pair, put_pairs, put_term, rotated}
 
 -- ---- a store into one row
 module _ (w : ℕ) (p : List (List Float)) (k m : ℕ) (v : Float) (hk : k < 3) (hm : m < w) (z : Sized w p) where
@@ -38,54 +41,22 @@ module _ (w : ℕ) (p : List (List Float)) (k m : ℕ) (v : Float) (hk : k < 3) 
   put_sized = record { rows = length-set p k (set (get_or p k []) m v) ∙ z.rows; cells = size_at }
 
 -- four stores, by two
-pub put4_is : (k m : ℕ) (a b c d : Float) (p p' p'' : List (List Float)) → p' ≡ put (put p k m a) k (m + 1) b → p'' ≡ put (put p' k (m + 2) c) k (m + 2 + 1) d → p'' ≡ put4 p k m a b c d
-put4_is k m a b c d p p' p'' e e' =
-    let u : m + 2 + 1 ≡ m + 3 = omega arith in
-    e' ∙ rw (e, u)
+pub put4_is : (k m : ℕ) (a b c d : PDp) (r r' r'' : Rows) → r' ≡ put_pair (put_pair r k m a) k (m + 1) b → r'' ≡ put_pair (put_pair r' k (m + 2) c) k (m + 2 + 1) d → r'' ≡ put_pairs r k m (a ∷ b ∷ c ∷ d ∷ [])
+put4_is k m a b c d r r' r'' e e' = let u : m + 2 + 1 ≡ m + 3 = omega arith in e' ∙ rw (e, u)
 
--- the terms of a place, stored: one in each row
-module _ (t : List (List Float)) (m : ℕ) (v : Xyz) (hm : m < N_LEGENDRE) (z : Sized N_LEGENDRE t) where
-  abbrev with_x : List (List Float)
-  with_x = put t 0 m v.x
-
-  abbrev with_xy : List (List Float)
-  with_xy = put with_x 1 m v.y
-
-  x_sized : Sized N_LEGENDRE with_x
-  x_sized = put_sized N_LEGENDRE t 0 m v.x (omega arith) hm z
-
-  xy_sized : Sized N_LEGENDRE with_xy
-  xy_sized = put_sized N_LEGENDRE with_x 1 m v.y (omega arith) hm x_sized
-
-  pub term_sized : Sized N_LEGENDRE (put_term t m v)
+-- the terms of a place, stored
+module _ (t : Terms) (m : ℕ) (v : Xyz) (hm : m < N_LEGENDRE) (z : Wide t) where
+  pub term_wide : Wide (put_term t m v)
   unfolding put_term
-  term_sized = put_sized N_LEGENDRE with_xy 2 m v.z (omega arith) hm xy_sized
-
-  not_y : (l : ℕ) → cell with_xy 0 l ≡ cell with_x 0 l
-  not_y l = put_other N_LEGENDRE with_x 1 m v.y (omega arith) hm x_sized 0 l (λ e. omega arith)
-
-  not_z : (k l : ℕ) → k < 2 → cell (put with_xy 2 m v.z) k l ≡ cell with_xy k l
-  not_z k l h = put_other N_LEGENDRE with_xy 2 m v.z (omega arith) hm xy_sized k l (λ e. omega arith)
+  term_wide = record { x = length-set t.x m v.x ∙ z.x; y = length-set t.y m v.y ∙ z.y; z = length-set t.z m v.z ∙ z.z }
 
   pub term_same : cell_xyz (put_term t m v) m ≡ v
   unfolding put_term
-  term_same =
-      rw (not_z 0 m (omega arith), not_y m, put_same N_LEGENDRE t 0 m v.x (omega arith) hm z, not_z 1 m (omega arith), put_same N_LEGENDRE with_x 1 m v.y (omega arith) hm x_sized, put_same N_LEGENDRE with_xy 2 m v.z (omega arith) hm xy_sized)
+  term_same = rw (get_or-set_same t.x m v.x nan (omega (arith, z.x)), get_or-set_same t.y m v.y nan (omega (arith, z.y)), get_or-set_same t.z m v.z nan (omega (arith, z.z))) refl
 
   pub term_other : (l : ℕ) → (l ≡ m → ⊥) → cell_xyz (put_term t m v) l ≡ cell_xyz t l
   unfolding put_term
-  term_other l n =
-      rw (
-        not_z 0 l (omega arith),
-        not_y l,
-        put_row N_LEGENDRE t 0 m v.x (omega arith) hm z l n,
-        not_z 1 l (omega arith),
-        put_row N_LEGENDRE with_x 1 m v.y (omega arith) hm x_sized l n,
-        put_other N_LEGENDRE t 0 m v.x (omega arith) hm z 1 l (λ e. omega arith),
-        put_row N_LEGENDRE with_xy 2 m v.z (omega arith) hm xy_sized l n,
-        put_other N_LEGENDRE with_x 1 m v.y (omega arith) hm x_sized 2 l (λ e. omega arith),
-        put_other N_LEGENDRE t 0 m v.x (omega arith) hm z 2 l (λ e. omega arith),
-      )
+  term_other l n = rw (get_or-set_other t.x m l v.x nan n, get_or-set_other t.y m l v.y nan n, get_or-set_other t.z m l v.z nan n) refl
 
 -- the degree is done: its row becomes the row before
 pub apart_rotate : (q : Places) → Apart q → Apart (rotated q)

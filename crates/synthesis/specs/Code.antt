@@ -11,8 +11,15 @@ use Rattle.synthesis.specs.declared.rows.Places.{Places}
 use Rattle.synthesis.specs.declared.angles.Angles.{Angles}
 use Rattle.synthesis.specs.declared.angles.SinCos.{SinCos}
 use Rattle.synthesis.specs.declared.date.Gh.{Gh}
+use Rattle.synthesis.specs.declared.date.Dated.{Dated}
 use Rattle.synthesis.specs.declared.near_pole.PoleRow.{PoleRow}
+use Rattle.synthesis.specs.declared.rows.Rows.{Rows}
 use Rattle.synthesis.specs.declared.lanes.Starts.{Starts}
+use Rattle.synthesis.specs.declared.lanes.Weights.{Weights}
+use Rattle.synthesis.specs.declared.terms.Sources.{Sources}
+use Rattle.synthesis.specs.declared.terms.Terms.{Terms}
+use Rattle.synthesis.specs.declared.general.Lanes.{Lanes}
+use Rattle.lists.specs.declared.Lists.{Lists}
 use Rattle.sums.specs.Recurrence.{Input, angle, coefficient, downward, gc, gs, lit, next_quotient, pole_east, pole_x, pole_y, pole_z, power, ps, step, total, x_row, x_sum, y_row, y_sum, z_row, z_sum}
 use Rattle.sums.specs.Paths.{POLE_ORDERS}
 use Rattle.sums.specs.Arithmetic.{Pair, pair, rounded}
@@ -24,24 +31,37 @@ pdp a = record { p = a.fst; dp = a.snd }
 abbrev pub qp : PDp → Pair Float
 qp r = pair r.p r.dp
 
--- P and its derivative at order m of two lists
-abbrev pub pair_at : List Float → List Float → ℕ → PDp
-pair_at p d m = record { p = get_or p m nan; dp = get_or d m nan }
+-- f 0 to f 3, for the orders of four lanes
+abbrev pub four : {A : Type 0} → (ℕ → A) → List A
+four f = f 0 ∷ f 1 ∷ f 2 ∷ f 3 ∷ []
+
+-- two zeros, as the code holds them
+abbrev pub nothing : PDp
+nothing = record { p = of_bits binary32 0; dp = of_bits binary32 0 }
+
+-- P and its derivative where lane m starts
+abbrev pub pair_at : Starts → ℕ → PDp
+pair_at d m = record { p = get_or d.p m nan; dp = get_or d.dp m nan }
 
 -- row k of three, at column j
 abbrev pub cell : List (List Float) → ℕ → ℕ → Float
 cell t k j = get_or (get_or t k []) j nan
 
-abbrev pub cells : List (List Float) → List (List Float) → ℕ → ℕ → Pair Float
-cells p d k m = pair (cell p k m) (cell d k m)
+abbrev pub cells : Rows → ℕ → ℕ → Pair Float
+cells r k m = pair (cell r.p k m) (cell r.dp k m)
 
 -- row k with v at column j
 abbrev pub put : List (List Float) → ℕ → ℕ → Float → List (List Float)
 put t k j v = set t k (set (get_or t k []) j v)
 
--- row k with four values from order m on
-abbrev pub put4 : List (List Float) → ℕ → ℕ → Float → Float → Float → Float → List (List Float)
-put4 p k m a b c d = put (put (put (put p k m a) k (m + 1) b) k (m + 2) c) k (m + 3) d
+-- the rows with a pair at column j of row k
+abbrev pub put_pair : Rows → ℕ → ℕ → PDp → Rows
+put_pair r k j v = record { p = put r.p k j v.p; dp = put r.dp k j v.dp }
+
+-- with four, from column m on
+abbrev pub put_pairs : Rows → ℕ → ℕ → List PDp → Rows
+put_pairs r k m v =
+    put_pair (put_pair (put_pair (put_pair r k m (get_or v 0 nothing)) k (m + 1) (get_or v 1 nothing)) k (m + 2) (get_or v 2 nothing)) k (m + 3) (get_or v 3 nothing)
 
 -- the row step's last branch alone: q of degree n - 1, r of degree n - 2
 abbrev pub lowered : Float → Float → Float → Pair Float → Pair Float → Pair Float
@@ -72,8 +92,14 @@ unfoldable pub start_at : Float → Float → ℕ → Pair Float
 start_at c s zero = pair (lit 1) (lit 0)
 start_at c s (suc m) = let a = start_at c s m in pair (rounded.times s a.fst) (rounded.plus (rounded.times s a.snd) (rounded.times c a.fst))
 
+abbrev pub start_p : Float → Float → ℕ → Float
+start_p c s m = (start_at c s m).fst
+
+abbrev pub start_dp : Float → Float → ℕ → Float
+start_dp c s m = (start_at c s m).snd
+
 unfoldable pub starts_of : Float → Float → Starts
-starts_of c s = record { p = first (λ m. (start_at c s m).fst) M_LEN; dp = first (λ m. (start_at c s m).snd) M_LEN }
+starts_of c s = record { p = first (start_p c s) M_LEN; dp = first (start_dp c s) M_LEN }
 
 abbrev pub start : Input Float → ℕ → Pair Float
 start i m = start_at i.cos_theta i.sin_theta m
@@ -90,10 +116,6 @@ lane_step i n m q r = lowered (weight i.cos_theta (lit 1) n m) (weight i.sin_the
 abbrev pub none : Pair Float
 none = pair (lit 0) (lit 0)
 
--- the same, as the code holds it
-abbrev pub nothing : PDp
-nothing = record { p = of_bits binary32 0; dp = of_bits binary32 0 }
-
 -- what lane m holds in degree n: nothing below the degree where its four lanes begin, there its start value, and a step for each degree after it
 unfoldable pub lane : Input Float → ℕ → ℕ → Pair Float
 lane i zero m = cond (ltb 0 (4 * (m / 4))) none (start i m)
@@ -108,9 +130,13 @@ two_back i n m = cond (ltb n 2) none (lane i (n - 2) m)
 abbrev pub W_LEN : ℕ
 W_LEN = 2 * N_MAX
 
--- a lane after a step, w its place in the lists of weights, a of the degree before and b of that before it
-abbrev pub lowered_at : ℕ → Float → List Float → List Float → PDp → PDp → PDp
-lowered_at w k cw sw a b = pdp (lowered (get_or cw w nan) (get_or sw w nan) k (qp a) (qp b))
+-- a lane after a step, j its place in the lists of weights, a of the degree before and b of that before it
+abbrev pub lowered_at : Weights → ℕ → Float → PDp → PDp → PDp
+lowered_at w j k a b = pdp (lowered (get_or w.cos j nan) (get_or w.sin j nan) k (qp a) (qp b))
+
+-- four lanes after a step, from place j on
+abbrev pub lowered_four : Weights → ℕ → List Float → List PDp → List PDp → List PDp
+lowered_four w j k a b = four (λ l. lowered_at w (j + l) (get_or k l nan) (get_or a l nothing) (get_or b l nothing))
 
 -- the square of n, and the divisor of K in the degree after n
 unfoldable pub square_at : ℕ → Float
@@ -119,9 +145,9 @@ square_at n = mul binary32 (lit n) (lit n)
 unfoldable pub divisor_at : ℕ → Float
 divisor_at n = k_divisor (square_at n)
 
--- the factor of the degree after n in lane m, from the orders, their squares and the divisors
-abbrev pub next_k : List Float → List Float → List Float → ℕ → ℕ → Float
-next_k os sq ds n m = k_over (get_or sq n nan) (get_or os m nan) (get_or ds n nan)
+-- the factor of the degree after n in lane m, from these
+abbrev pub next_k : ℕ → ℕ → Float
+next_k n m = k_over (square_at n) (lit m) (divisor_at n)
 
 -- one order's terms of the three sums, o the order; x is the minus of the term of X
 unfoldable pub term_of : Float → Float → PDp → Float → Float → Float → Float → Xyz
@@ -134,28 +160,53 @@ term_of o s r g h sin cos =
     }
 
 -- the coefficients at place k of the lists, at the date
-abbrev pub gh_at : List Float → List Float → List Float → List Float → Float → ℕ → Gh
-gh_at g h g_dot h_dot t k = record { g = coefficient rounded (get_or g k nan) (get_or g_dot k nan) t; h = coefficient rounded (get_or h k nan) (get_or h_dot k nan) t }
+abbrev pub gh_at : Dated → ℕ → Gh
+gh_at d k =
+    let l = d.lists in
+    record { g = coefficient rounded (get_or l.g.now k nan) (get_or l.g_dot.now k nan) d.offset; h = coefficient rounded (get_or l.h.now k nan) (get_or l.h_dot.now k nan) d.offset }
 
--- the same, of order m at place k of the tables
-abbrev pub term_at : ℕ → ℕ → PDp → List Float → List Float → List Float → List Float → List Float → Float → List Float → List Float → List Float → Xyz
-term_at m k r ss g h g_dot h_dot t os sin cos =
-    term_of (get_or os m nan) (get_or ss k nan) r (gh_at g h g_dot h_dot t (k - 1)).g (gh_at g h g_dot h_dot t (k - 1)).h (get_or sin m nan) (get_or cos m nan)
+-- the pair of order m
+abbrev pub sin_cos_of : Angles → ℕ → SinCos
+sin_cos_of a m = record { sin = get_or a.sin m nan; cos = get_or a.cos m nan }
 
--- the three rows of terms: read and stored at place k
-abbrev pub cell_xyz : List (List Float) → ℕ → Xyz
-cell_xyz t k = record { x = cell t 0 k; y = cell t 1 k; z = cell t 2 k }
+-- the terms of order m at place k of the tables
+abbrev pub term_at : Sources → ℕ → ℕ → PDp → Xyz
+term_at s m k r =
+    let w = gh_at s.dated (k - 1) in
+    let u = sin_cos_of s.angles.now m in
+    term_of (lit m) (get_or s.schmidt.now k nan) r w.g w.h u.sin u.cos
 
-unfoldable pub put_term : List (List Float) → ℕ → Xyz → List (List Float)
-put_term t k v = put (put (put t 0 k v.x) 1 k v.y) 2 k v.z
+-- of four orders, from order m at place k on
+abbrev pub four_terms : Sources → ℕ → ℕ → List PDp → List Xyz
+four_terms s m k r = four (λ j. term_at s (m + j) (k + j) (get_or r j nothing))
+
+-- the terms: read and stored at place k
+abbrev pub cell_xyz : Terms → ℕ → Xyz
+cell_xyz t k = record { x = get_or t.x k nan; y = get_or t.y k nan; z = get_or t.z k nan }
+
+unfoldable pub put_term : Terms → ℕ → Xyz → Terms
+put_term t k v = record { x = set t.x k v.x; y = set t.y k v.y; z = set t.z k v.z }
+
+-- three zeros, as the code holds them
+abbrev pub no_term : Xyz
+no_term = record { x = of_bits binary32 0; y = of_bits binary32 0; z = of_bits binary32 0 }
 
 -- four terms stored, from place k on
-abbrev pub put4_terms : List (List Float) → ℕ → Xyz → Xyz → Xyz → Xyz → List (List Float)
-put4_terms t k a b c d = put_term (put_term (put_term (put_term t k a) (k + 1) b) (k + 2) c) (k + 3) d
+abbrev pub put_terms : Terms → ℕ → List Xyz → Terms
+put_terms t k v =
+    put_term (put_term (put_term (put_term t k (get_or v 0 no_term)) (k + 1) (get_or v 1 no_term)) (k + 2) (get_or v 2 no_term)) (k + 3) (get_or v 3 no_term)
 
 -- the first k terms, added up from 0, each x taken away; i is not read
 abbrev pub totals : Input Float → (ℕ → Xyz) → ℕ → Xyz
 totals i f k = record { x = total rounded i (λ m. rounded.opp (f m).x) k; y = total rounded i (λ m. (f m).y) k; z = total rounded i (λ m. (f m).z) k }
+
+-- three sums at once
+unfoldable pub plus_of : Xyz → Xyz → Xyz
+plus_of a b = record { x = rounded.plus a.x b.x; y = rounded.plus a.y b.y; z = rounded.plus a.z b.z }
+
+-- the part of degree n in the sums, from the sums over its orders
+unfoldable pub degree_part : ℕ → Float → Xyz → Xyz
+degree_part n power a = record { x = rounded.times power a.x; y = rounded.times power a.y; z = downward rounded n power a.z }
 
 -- the sums with one degree more
 unfoldable pub add_degree : Xyz → ℕ → Float → Xyz → Xyz
@@ -187,6 +238,14 @@ general i N = record { x = x_sum rounded i N; y = y_sum rounded i N; z = z_sum r
 abbrev pub OfDegree : ℕ → List Float → List Float → List Float → List Float → Type 0
 OfDegree top g h g_dot h_dot = (WMM_MAX ≤ top) × (top ≤ N_MAX) × (length g ≡ entries top) × (length h ≡ entries top) × (length g_dot ≡ entries top) × (length h_dot ≡ entries top)
 
+-- the same, as they are lent
+abbrev pub ListsOf : ℕ → Lists → Type 0
+ListsOf top l = OfDegree top l.g.now l.h.now l.g_dot.now l.h_dot.now
+
+-- lent lists of n entries at least
+abbrev pub Reach : ℕ → Lists → Type 0
+Reach n l = (n ≤ length l.g.now) × (n ≤ length l.h.now) × (n ≤ length l.g_dot.now) × (n ≤ length l.h_dot.now)
+
 -- three rows of w columns
 pub record Sized (w : ℕ) (t : List (List Float)) : Type 0 where
   pub rows : length t ≡ 3
@@ -201,46 +260,55 @@ pub record Apart (q : Places) : Type 0 where
   pub prev2_cur : q.prev2 ≡ q.cur → ⊥
   pub prev1_prev2 : q.prev1 ≡ q.prev2 → ⊥
 
+-- terms of every place
+pub record Wide (t : Terms) : Type 0 where
+  pub x : length t.x ≡ N_LEGENDRE
+  pub y : length t.y ≡ N_LEGENDRE
+  pub z : length t.z ≡ N_LEGENDRE
+
 -- the lanes below m are at their start: the middle row holds it, the others nothing
-pub record Fresh (i : Input Float) (m : ℕ) (p d : List (List Float)) : Type 0 where
-  pub p_sized : Sized M_LEN p
-  pub d_sized : Sized M_LEN d
-  pub starts : (k l : ℕ) → k < 3 → l < m → cells p d k l ≡ cond (eqb k 1) (start i l) none
+pub record Fresh (i : Input Float) (m : ℕ) (r : Rows) : Type 0 where
+  pub p_sized : Sized M_LEN r.p
+  pub d_sized : Sized M_LEN r.dp
+  pub starts : (k l : ℕ) → k < 3 → l < m → cells r k l ≡ cond (eqb k 1) (start i l) none
 
 -- the terms of the orders from m on are stored, in the degrees up to top
-pub record Above (i : Input Float) (top m : ℕ) (t : List (List Float)) : Type 0 where
-  pub sized : Sized N_LEGENDRE t
+pub record Above (i : Input Float) (top m : ℕ) (t : Terms) : Type 0 where
+  pub wide : Wide t
   pub terms_are : (d l : ℕ) → d ≤ top → m ≤ l → l ≤ d → cell_xyz t (place d l) ≡ lane_terms i d l
 
 -- the same, in the degrees above m
-pub record Filled (i : Input Float) (top m : ℕ) (t : List (List Float)) : Type 0 where
-  pub sized : Sized N_LEGENDRE t
+pub record Filled (i : Input Float) (top m : ℕ) (t : Terms) : Type 0 where
+  pub wide : Wide t
   pub terms_are : (d l : ℕ) → m < d → d ≤ top → m ≤ l → l ≤ d → cell_xyz t (place d l) ≡ lane_terms i d l
 
 -- the sums of degree n over its orders
 abbrev pub row_sums : Input Float → ℕ → Xyz
 row_sums i n = record { x = x_row rounded i n; y = y_row rounded i n; z = z_row rounded i n }
 
--- what the code reads at each order is what the sums read: the factors K, Schmidt's table, the coefficients at the date, the orders, what K is made of, the angles
-pub record Given (i : Input Float) (top : ℕ) (ss g h g_dot h_dot : List Float) (t : Float) (os sq ds sin cos : List Float) : Type 0 where
+-- what the terms are made of is what the sums read: the factors K, Schmidt's table, the coefficients at the date, the angles
+pub record Given (i : Input Float) (top : ℕ) (s : Sources) : Type 0 where
   pub K : i.K ≡ k_of
-  pub S : (n m : ℕ) → n < M_LEN → m ≤ n → get_or ss (place n m) nan ≡ i.S n m
-  pub g_is : (n m : ℕ) → 0 < n → n ≤ top → m ≤ n → (gh_at g h g_dot h_dot t (place n m - 1)).g ≡ i.g n m
-  pub h_is : (n m : ℕ) → 0 < n → n ≤ top → m ≤ n → (gh_at g h g_dot h_dot t (place n m - 1)).h ≡ i.h n m
-  pub order : (m : ℕ) → m < M_LEN → get_or os m nan ≡ lit m
-  pub square : (n : ℕ) → n < M_LEN → get_or sq n nan ≡ square_at n
-  pub divisor : (n : ℕ) → n < M_LEN → get_or ds n nan ≡ divisor_at n
-  pub sin_is : (m : ℕ) → m < M_LEN → get_or sin m nan ≡ (angle rounded i.sin_lambda i.cos_lambda m).fst
-  pub cos_is : (m : ℕ) → m < M_LEN → get_or cos m nan ≡ (angle rounded i.sin_lambda i.cos_lambda m).snd
+  pub S : (n m : ℕ) → n < M_LEN → m ≤ n → get_or s.schmidt.now (place n m) nan ≡ i.S n m
+  pub g_is : (n m : ℕ) → 0 < n → n ≤ top → m ≤ n → (gh_at s.dated (place n m - 1)).g ≡ i.g n m
+  pub h_is : (n m : ℕ) → 0 < n → n ≤ top → m ≤ n → (gh_at s.dated (place n m - 1)).h ≡ i.h n m
+  pub sin_is : (m : ℕ) → m < M_LEN → get_or s.angles.now.sin m nan ≡ (angle rounded i.sin_lambda i.cos_lambda m).fst
+  pub cos_is : (m : ℕ) → m < M_LEN → get_or s.angles.now.cos m nan ≡ (angle rounded i.sin_lambda i.cos_lambda m).snd
 
 -- the lists of start values
-abbrev pub Started : Input Float → List Float → List Float → Type 0
-Started i p d = (m : ℕ) → m < M_LEN → pair_at p d m ≡ pdp (start i m)
+abbrev pub Started : Input Float → Starts → Type 0
+Started i d = (m : ℕ) → m < M_LEN → pair_at d m ≡ pdp (start i m)
 
 -- the two lists of weights: before P and its derivative, before P in the derivative
-pub record Weighed (i : Input Float) (cw sw : List Float) : Type 0 where
-  pub cos_theta : (j : ℕ) → j < W_LEN → get_or cw j nan ≡ cond (ltb j N_MAX) i.cos_theta (lit 1)
-  pub sin_theta : (j : ℕ) → j < W_LEN → get_or sw j nan ≡ cond (ltb j N_MAX) i.sin_theta (lit 0)
+pub record Weighed (i : Input Float) (w : Weights) : Type 0 where
+  pub cos_theta : (j : ℕ) → j < W_LEN → get_or w.cos j nan ≡ cond (ltb j N_MAX) i.cos_theta (lit 1)
+  pub sin_theta : (j : ℕ) → j < W_LEN → get_or w.sin j nan ≡ cond (ltb j N_MAX) i.sin_theta (lit 0)
+
+-- what the lanes read is what the sums read
+pub record Ready (i : Input Float) (top : ℕ) (l : Lanes) : Type 0 where
+  pub given : Given i top l.sources
+  pub weighed : Weighed i l.weights.now
+  pub started : Started i l.starts.now
 
 -- ---- near the pole
 -- Q of degree n, from those of degrees n - 1 and n - 2

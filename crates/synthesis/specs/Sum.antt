@@ -5,17 +5,17 @@ use Rattle.std.specs.Float.{binary32}
 use Rattle.std.specs.Float.Ieee.{of_bits}
 use Rattle.exact.specs.Tests.{all_capped, between, circle}
 use Rattle.exact.specs.Within.{Within}
-use Rattle.refusals.specs.Paper.{Paper, answered, paper, told, check}
-use Rattle.refusals.specs.declared.Refusal.TheVariants.{Longitude, Colatitude, Ratio, Offset}
-use Rattle.refusals.specs.declared.Verdict.{Verdict}
+use Rattle.refusals.specs.Paper.{Paper, Verdict, accepted, answered, told, check}
+use Rattle.refusals.specs.declared.Refusal.{Refusal}
 use Rattle.lists.specs.Lists.{lengths_verdict, lists_verdict, main_cap, rate_cap}
 use Rattle.tables.specs.Degree.{degree_of}
 use Rattle.sums.specs.Arithmetic.{Arithmetic, rounded, unrounded, sizes}
 use Rattle.sums.specs.Recurrence.{Input}
 use Rattle.sums.specs.Paths.{dated, path_x, path_y, path_z, placed}
 use Rattle.synthesis.specs.declared.Xyz.{Xyz}
-use Rattle.synthesis.specs.declared.SumAnswer.{SumAnswer}
-use Rattle.synthesis.specs.declared.SumAnswer.TheVariants as Answer
+use Rattle.synthesis.specs.declared.Colatitude.{Colatitude}
+use Rattle.synthesis.specs.declared.Longitude.{Longitude}
+use Rattle.lists.specs.declared.Lists.{Lists}
 
 -- ---- what is lent
 pub record Lent : Type 0 where
@@ -33,6 +33,11 @@ pub record Lent : Type 0 where
 -- the same, from its parts
 abbrev pub lent : Float → Float → Float → Float → Float → Float → List Float → List Float → List Float → List Float → Lent
 lent c s sl cl ratio t g h gd hd = record { cos_theta = c; sin_theta = s; sin_lambda = sl; cos_lambda = cl; ratio = ratio; offset = t; g = g; h = h; g_dot = gd; h_dot = hd }
+
+-- the same, as a call lends it
+abbrev pub lent_at : Colatitude → Longitude → (ratio offset : Float) → Lists → Lent
+lent_at colatitude longitude ratio offset l =
+    lent colatitude.cos colatitude.sin longitude.sin longitude.cos ratio offset l.g.now l.h.now l.g_dot.now l.h_dot.now
 
 -- as the sums read it: each coefficient is main + offset·rate
 unfoldable pub inputs : {A : Type 0} → Arithmetic A → Lent → Input A
@@ -65,10 +70,10 @@ offset_ok x = between (of_bits binary32 0) (of_bits binary32 0x40a00000) x
 -- refusal 9, 3, 10 or 11, the first that is due
 unfoldable pub numbers_verdict : (cos_theta sin_theta sin_lambda cos_lambda ratio offset : Float) → Verdict
 numbers_verdict cos_theta sin_theta sin_lambda cos_lambda ratio offset =
-    check (circle sin_theta cos_theta) Colatitude
-    (check (circle sin_lambda cos_lambda) Longitude
-    (check (ratio_ok ratio) Ratio
-    (check (offset_ok offset) Offset Verdict.Accepted)))
+    check (circle sin_theta cos_theta) Refusal.Colatitude
+    (check (circle sin_lambda cos_lambda) Refusal.Longitude
+    (check (ratio_ok ratio) Refusal.Ratio
+    (check (offset_ok offset) Refusal.Offset accepted)))
 
 -- ---- the answer
 unfoldable pub value_of : Lent → Xyz
@@ -87,11 +92,6 @@ sum_says a = summed_says (lists_verdict a.g a.h a.g_dot a.h_dot) a
 -- the same without 7, whatever the entries are
 unfoldable pub uncapped_says : Lent → Paper Xyz
 uncapped_says a = summed_says (lengths_verdict a.g a.h a.g_dot a.h_dot) a
-
--- the paper's number and values of each case of the answer
-abbrev pub said : SumAnswer → Paper Xyz
-said (Answer.Sum v) = answered v
-said (Answer.Refused k) = paper k
 
 -- ---- what passed the checks of the numbers and of the entries
 pub record SumAccepted (a : Lent) : Type 0 where

@@ -1,14 +1,9 @@
 // Sines and cosines of multiples of the longitude.
-ghost use Rattle.std.specs.Prelude.{◌≡◌};
-ghost use Rattle.synthesis.specs.Code.{angles_of};
+ghost use Rattle.std.specs.Prelude.{◌≡◌, ◌<◌};
+ghost use Rattle.tables.specs.Degree.{M_LEN};
+ghost use Rattle.synthesis.specs.Code.{angles_of, sin_cos_of};
 
-use crate::M_LEN;
-
-#[derive(Clone, Copy)]
-pub struct Angles {
-    pub sin: [f32; M_LEN],
-    pub cos: [f32; M_LEN],
-}
+use crate::{Longitude, M_LEN};
 
 // The pair of one order.
 #[derive(Clone, Copy)]
@@ -17,8 +12,27 @@ pub struct SinCos {
     pub cos: f32,
 }
 
-pub fn sin_cos_m_lambda(sin_lambda: f32, cos_lambda: f32) -> Angles
-    ensures { result ≡ angles_of sin_lambda cos_lambda }
+// The pairs of all orders, the sines and the cosines apart: four of each are then read as one.
+#[derive(Clone, Copy)]
+pub struct Angles {
+    pub sin: [f32; M_LEN],
+    pub cos: [f32; M_LEN],
+}
+
+impl Angles {
+    pub fn at(&self, m: usize) -> SinCos
+        requires { m < M_LEN }
+        ensures { result ≡ sin_cos_of self.now m }
+    {
+        SinCos {
+            sin: self.sin[m],
+            cos: self.cos[m],
+        }
+    }
+}
+
+pub fn sin_cos_m_lambda(longitude: Longitude) -> Angles
+    ensures { result ≡ angles_of longitude.sin longitude.cos }
 {
     let mut sin = [0.0f32; M_LEN];
     let mut cos = [0.0f32; M_LEN];
@@ -26,8 +40,8 @@ pub fn sin_cos_m_lambda(sin_lambda: f32, cos_lambda: f32) -> Angles
     for m in 1..M_LEN {
         let a = sin[m - 1];
         let b = cos[m - 1];
-        sin[m] = a * cos_lambda + b * sin_lambda;
-        cos[m] = b * cos_lambda - a * sin_lambda;
+        sin[m] = a * longitude.cos + b * longitude.sin;
+        cos[m] = b * longitude.cos - a * longitude.sin;
     }
     Angles { sin, cos }
 }

@@ -1,8 +1,10 @@
 // Coefficients at a date.
-ghost use Rattle.std.specs.Prelude.{◌≡◌, ◌<◌, length};
+ghost use Rattle.std.specs.Prelude.{◌≡◌, ◌+◌};
 ghost use Rattle.sums.specs.Arithmetic.{rounded};
 ghost use Rattle.sums.specs.Recurrence.{coefficient};
-ghost use Rattle.synthesis.specs.Code.{gh_at};
+ghost use Rattle.synthesis.specs.Code.{Reach, gh_at};
+
+use lists::Lists;
 
 // Two coefficients of one degree and order.
 #[derive(Clone, Copy)]
@@ -11,25 +13,30 @@ pub struct Gh {
     pub h: f32,
 }
 
-pub fn coeff_at_t(main: f32, secular: f32, time_delta: f32) -> f32
-    ensures { result ≡ coefficient rounded main secular time_delta }
-{
-    main + time_delta * secular
+// Lent lists, and the years from their epoch to a date.
+#[derive(Clone, Copy)]
+pub struct Dated<'a> {
+    pub lists: Lists<'a>,
+    pub offset: f32,
 }
 
-// The coefficients at place i of their lists.
-pub fn coeffs_at(
-    i: usize,
-    g: &[f32],
-    h: &[f32],
-    g_dot: &[f32],
-    h_dot: &[f32],
-    time_delta: f32,
-) -> Gh
-    requires { (i < length g.now) × (i < length h.now) × (i < length g_dot.now) × (i < length h_dot.now) }
-    ensures { result ≡ gh_at g.now h.now g_dot.now h_dot.now time_delta i }
+#[tactic(auto, unfolding(sums::specs::Arithmetic::rounded))]
+fn coeff_at_t(main: f32, secular: f32, offset: f32) -> f32
+    ensures { result ≡ coefficient rounded main secular offset }
 {
-    let gt = coeff_at_t(g[i], g_dot[i], time_delta);
-    let ht = coeff_at_t(h[i], h_dot[i], time_delta);
-    Gh { g: gt, h: ht }
+    main + offset * secular
+}
+
+impl<'a> Dated<'a> {
+    // The coefficients at place i of their lists.
+    pub fn at(self, i: usize) -> Gh
+        requires { Reach (i + 1) self.lists }
+        ensures { result ≡ gh_at self.entry i }
+    {
+        let l = self.lists;
+        Gh {
+            g: coeff_at_t(l.g[i], l.g_dot[i], self.offset),
+            h: coeff_at_t(l.h[i], l.h_dot[i], self.offset),
+        }
+    }
 }

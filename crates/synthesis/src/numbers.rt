@@ -5,6 +5,7 @@ ghost use Rattle.synthesis.specs.Sum.{numbers_verdict};
 use crate::{Colatitude, Longitude};
 use refusals::{Refusal, Verdict};
 
+#[tactic(auto, unfolding(crate::specs::Sum::numbers_verdict, crate::specs::Sum::ratio_ok, crate::specs::Sum::offset_ok))]
 pub fn check_numbers(
     colatitude: Colatitude,
     longitude: Longitude,
@@ -14,16 +15,16 @@ pub fn check_numbers(
     ensures { result ≡ numbers_verdict colatitude.cos colatitude.sin longitude.sin longitude.cos ratio offset }
 {
     if float32::off_circle(colatitude.sin, colatitude.cos) {
-        return Verdict::Refused(Refusal::Colatitude);
+        return Err(Refusal::Colatitude);
     }
     if float32::off_circle(longitude.sin, longitude.cos) {
-        return Verdict::Refused(Refusal::Longitude);
+        return Err(Refusal::Longitude);
     }
     if float32::outside(ratio, 0.875, 1.015625) {
-        return Verdict::Refused(Refusal::Ratio);
+        return Err(Refusal::Ratio);
     }
     if float32::outside(offset, 0.0, 5.0) {
-        return Verdict::Refused(Refusal::Offset);
+        return Err(Refusal::Offset);
     }
-    Verdict::Accepted
+    Ok(())
 }

@@ -2,44 +2,34 @@
 ghost use Rattle.std.specs.Prelude.{◌≡◌, T};
 ghost use Rattle.lists.specs.Lists.{Long};
 ghost use Rattle.exact.specs.Tests.{circle};
-ghost use Rattle.synthesis.specs.Sum.{lent, value_of};
+ghost use Rattle.synthesis.specs.Sum.{lent_at, value_of};
 
-use crate::Xyz;
+use crate::date::Dated;
 use crate::general::synthesize_xyz_prime;
 use crate::near_pole::synthesize_near_pole;
+use crate::{Colatitude, Longitude, Xyz};
 
-const NEAR_POLE_SIN_THETA_MIN: f32 = f32::from_bits(0x3a83126f);
+pub const NEAR_POLE_SIN_THETA_MIN: f32 = f32::from_bits(0x3a83126f);
 
 // The near-pole path gives Y itself; the general one gives Y', which is Y times sin θ.
 pub fn synthesize_geocentric_xyz(
-    cos_theta: f32,
-    sin_theta: f32,
-    sin_lambda: f32,
-    cos_lambda: f32,
+    theta: Colatitude,
+    lambda: Longitude,
     ratio: f32,
-    g: &[f32],
-    h: &[f32],
-    g_dot: &[f32],
-    h_dot: &[f32],
-    time_delta: f32,
+    dated: Dated,
 ) -> Xyz
-    requires long { Long g.now h.now g_dot.now h_dot.now }
-    requires t { T (circle sin_theta cos_theta) }
-    ensures { result ≡ value_of (lent cos_theta sin_theta sin_lambda cos_lambda ratio time_delta g.now h.now g_dot.now h_dot.now) }
+    requires long { let l = dated.lists in Long l.g.now l.h.now l.g_dot.now l.h_dot.now }
+    requires t { T (circle theta.sin theta.cos) }
+    ensures { result ≡ value_of (lent_at theta lambda ratio dated.entry.offset dated.entry.lists) }
 {
-    let top = tables::degree_of(g.len());
-    if float32::abs(sin_theta) < NEAR_POLE_SIN_THETA_MIN {
-        return synthesize_near_pole(
-            top, cos_theta, sin_theta, sin_lambda, cos_lambda, ratio, g, h, g_dot, h_dot,
-            time_delta,
-        );
+    let top = tables::degree_of(dated.lists.g.len());
+    if float32::abs(theta.sin) < NEAR_POLE_SIN_THETA_MIN {
+        return synthesize_near_pole(top, theta, lambda, ratio, dated);
     }
-    let r = synthesize_xyz_prime(
-        top, cos_theta, sin_theta, sin_lambda, cos_lambda, ratio, g, h, g_dot, h_dot, time_delta,
-    );
+    let r = synthesize_xyz_prime(top, theta, lambda, ratio, dated);
     Xyz {
         x: r.x,
-        y: r.y / sin_theta,
+        y: r.y / theta.sin,
         z: r.z,
     }
 }

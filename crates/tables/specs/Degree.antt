@@ -1,5 +1,5 @@
 -- The degrees, and the places of the lists and tables. Definitions only.
-use Rattle.std.specs.Prelude.{ℕ, ◌+◌, ◌*◌, ◌/◌, cond, eqb}
+use Rattle.std.specs.Prelude.{ℕ, ◌+◌, ◌*◌, ◌/◌, if◌then◌else◌, ◌==◌}
 
 -- the highest degree: that of IGRF (N_MAX)
 abbrev pub N_MAX : ℕ
@@ -27,7 +27,7 @@ N_COEFF = entries WMM_MAX
 
 -- the degree of a list of k entries: 13 if they are 104, else 12
 unfoldable pub degree_of : ℕ → ℕ
-degree_of k = cond (eqb k (entries N_MAX)) N_MAX WMM_MAX
+degree_of k = if k == entries N_MAX then N_MAX else WMM_MAX
 
 -- the place of degree n and order m in a table
 abbrev pub place : ℕ → ℕ → ℕ

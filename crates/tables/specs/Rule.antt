@@ -1,5 +1,5 @@
 -- The recurrence factors, and what the entries of Schmidt's table are to be (document 01, module 1). Definitions only.
-use Rattle.std.specs.Prelude.{false, cond, List, [], ◌∷◌, ℕ, zero, suc, ◌+◌, ◌-◌, ◌*◌, ◌/◌, ◌^◌, ◌<◌, eqb, leb, ℤ, pos, negsuc, get_or, Float}
+use Rattle.std.specs.Prelude.{false, if◌then◌else◌, List, [], ◌∷◌, ℕ, zero, suc, ◌+◌, ◌-◌, ◌*◌, ◌/◌, ◌^◌, ◌<◌, ◌==◌, nat_le, ℤ, pos, negsuc, get_or, Float}
 use Rattle.std.specs.Float.{fin, binary32}
 use Rattle.std.specs.Float.Ieee.{round, of_bits}
 use Rattle.exact.specs.Exact.{units_of}
@@ -8,9 +8,9 @@ use Rattle.tables.specs.Degree.{place}
 -- K, the recurrence factor: the f32 nearest ((n - 1)^2 - m^2) / ((2n - 1)(2n - 3)) where n ≥ 2 and m ≤ n - 2; else +0
 unfoldable pub k_of : ℕ → ℕ → Float
 k_of n m =
-    cond (leb (m + 2) n)
+    if nat_le (m + 2) n then
     (round binary32 false ((n - 1) * (n - 1) - m * m) ((2 * n - 1) * (2 * n - 3)))
-    (fin false 0 (pos 0))
+    else fin false 0 (pos 0)
 
 -- n!
 unfoldable pub factorial : ℕ → ℕ
@@ -23,10 +23,10 @@ central n = factorial (2 * n) / (factorial n * factorial n)
 
 -- the square of s_n^m is square_num n m / square_den n m: that of s_n^0, times 2(n!)^2 / ((n-m)!(n+m)!) for m ≥ 1
 unfoldable pub square_num : ℕ → ℕ → ℕ
-square_num n m = central n * central n * cond (eqb m 0) 1 (2 * (factorial n * factorial n))
+square_num n m = central n * central n * (if m == 0 then 1 else 2 * (factorial n * factorial n))
 
 unfoldable pub square_den : ℕ → ℕ → ℕ
-square_den n m = 4 ^ n * cond (eqb m 0) 1 (factorial (n - m) * factorial (n + m))
+square_den n m = 4 ^ n * (if m == 0 then 1 else factorial (n - m) * factorial (n + m))
 
 -- the size of a bit pattern's float, in units of 2 ^ -149
 unfoldable pub units : ℕ → ℕ

@@ -132,6 +132,7 @@ const SCHMIDT_SEMI_NORM: [f32; N_LEGENDRE] = [
 ];
 
 // The degree of a list, by its entries.
+#[tactic(auto, unfolding(crate::specs::Degree::degree_of))]
 pub fn degree_of(entries: usize) -> usize
     ensures { result ≡ degree_of entries }
 {
@@ -142,12 +143,15 @@ pub fn degree_of(entries: usize) -> usize
     }
 }
 
+#[tactic(auto, unfolding(crate::specs::Tables::schmidt_table, crate::specs::Tables::schmidt_bits))]
 pub fn schmidt_table() -> [f32; N_LEGENDRE]
     ensures { result ≡ schmidt_table }
 {
     SCHMIDT_SEMI_NORM
 }
 
+// x, or +0 where x is not above 0. (std's `max` leaves open which of two zeros it answers.)
+#[tactic(auto, unfolding(crate::specs::Division::at_least_zero))]
 fn not_below_zero(x: f32) -> f32
     ensures { result ≡ at_least_zero x }
 {
@@ -155,6 +159,7 @@ fn not_below_zero(x: f32) -> f32
 }
 
 // (2n - 1)(2n - 3), which is 4(n - 1)^2 - 1. Degree 1 has 1, so that its factors are 0 and not -0.
+#[tactic(auto, unfolding(crate::specs::Division::k_divisor))]
 fn k_divisor(square: f32) -> f32
     ensures { result ≡ k_divisor square }
 {
@@ -166,6 +171,7 @@ fn k_divisor(square: f32) -> f32
 }
 
 // K from what a degree has alone, the square of n - 1 and the divisor: the sums look both up once a degree.
+#[tactic(auto, unfolding(crate::specs::Division::k_over))]
 pub fn legendre_k_over(square: f32, order: f32, divisor: f32) -> f32
     ensures { result ≡ k_over square order divisor }
 {
@@ -174,6 +180,7 @@ pub fn legendre_k_over(square: f32, order: f32, divisor: f32) -> f32
 
 // K, the recurrence factor of order m in degree n, from n - 1 and m as f32: one division of two whole
 // numbers. It is made of floats, and its two tests only choose a number, so that four lanes run at once.
+#[tactic(auto, unfolding(crate::specs::Division::k_divided))]
 pub fn legendre_k(below: f32, order: f32) -> f32
     ensures { result ≡ k_divided below order }
 {

@@ -8,8 +8,9 @@ use native.Mathlib.Omega.{arith}
 use borrow.Author.Tests.{leb-true}
 use lib.Dec.{eqb, leb}
 use lib.ListN.{length, length-append}
+use Rattle.std.specs.Prelude.{Some, None}
 use Rattle.text.specs.Bytes.{POINT, digit}
-use Rattle.text.specs.Decimals.{read, malformed, unsigned, before, beyond, pointed, digits, numeral, value_of, plain, plain_of, decimal_of}
+use Rattle.text.specs.Decimals.{unsigned, before, beyond, pointed, digits, numeral, value_of, plain, plain_of, decimal_of}
 use Rattle.text.specs.declared.Decimal.{Decimal}
 use Rattle.text.proofs.Scanned.{smaller}
 use Rattle.text.proofs.Digits.{and_parts}
@@ -74,10 +75,10 @@ module _ (u : List ℕ) (h : plain u ≡ true) where
       omega arith
 
 -- ---- the law
-chosen : (b : Bool) (a d : Decimal) → (b ≡ true → (a.digits < 10 ^ 9) × (a.places ≤ 8)) → cond b (read a) malformed ≡ read d → (d.digits < 10 ^ 9) × (d.places ≤ 8)
+chosen : (b : Bool) (a d : Decimal) → (b ≡ true → (a.digits < 10 ^ 9) × (a.places ≤ 8)) → cond b (Some a) None ≡ Some d → (d.digits < 10 ^ 9) × (d.places ≤ 8)
 chosen true a d h k = let i : a ≡ d = cc in rw (← i) (h refl)
 chosen false a d h k = absurd (let z : ◌≡◌ {A = ℕ} 0 1 = cc in omega arith)
 
-pub bounds : (w : List ℕ) (d : Decimal) → decimal_of w ≡ read d → (d.digits < 10 ^ 9) × (d.places ≤ 8)
+pub bounds : (w : List ℕ) (d : Decimal) → decimal_of w ≡ Some d → (d.digits < 10 ^ 9) × (d.places ≤ 8)
 unfolding decimal_of plain_of
 bounds w d e = chosen (plain (unsigned w)) _ d (λ h. (small_value (unsigned w) h, few_places (unsigned w) h)) e

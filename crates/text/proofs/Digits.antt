@@ -5,30 +5,32 @@ use mathlib.Core.List.{List, [], ◌∷◌, ◌++◌, append-nil}
 use mathlib.Core.Logic.{inl, inr, ⊎_elim}
 use Prim.Native.Nat.{ℕ, ◌+◌, ◌-◌, ◌*◌, ◌≤◌, ◌<◌}
 use native.Mathlib.Omega.{arith}
-use borrow.Author.Tests.{eq-eqb, ne_eqb, le-leb, lt-leb, leb-true}
+use borrow.Author.Tests.{ne_eqb, le-leb, lt-leb, leb-true}
 use lib.Dec.{eqb, leb}
-use lib.ListN.{length, drop, get_or, length-append}
+use lib.ListN.{length, take, drop, length-append}
+use Rattle.std.specs.Prelude.{Some, None}
+use Rattle.std.specs.Cmp.Lexicographic.{pointwise}
 use Rattle.text.specs.Bytes.{MINUS, POINT, digit}
-use Rattle.text.specs.Decimals.{read, malformed, before, beyond, pointed, digits, numeral, value_of, plain, plain_of, decimal_of}
+use Rattle.text.specs.Decimals.{before, beyond, pointed, digits, numeral, value_of, plain, plain_of, decimal_of}
 use Rattle.text.specs.Scan.{Sign}
 use Rattle.text.proofs.Scanned.{Split, Stops}
 
 -- ---- the four tests of a number
 module _ (m : Bool) (u : List ℕ) where
-  no_numeral : numeral (before u) ≡ false → malformed ≡ plain_of m u
+  no_numeral : numeral (before u) ≡ false → None ≡ plain_of m u
   unfolding plain_of plain
   no_numeral e = rw e
 
-  no_places : pointed u ≡ true → numeral (beyond u) ≡ false → malformed ≡ plain_of m u
+  no_places : pointed u ≡ true → numeral (beyond u) ≡ false → None ≡ plain_of m u
   unfolding plain_of plain
   no_places e f = rw (e, f, and-false (numeral (before u)))
 
-  too_long : 9 < length (before u) + length (beyond u) → malformed ≡ plain_of m u
+  too_long : 9 < length (before u) + length (beyond u) → None ≡ plain_of m u
   unfolding plain_of plain
   too_long h = rw (lt-leb (length (before u) + length (beyond u)) 9 h, and-false (numeral (before u) && (not (pointed u) || numeral (beyond u))))
 
   accepted : numeral (before u) ≡ true → (not (pointed u) || numeral (beyond u)) ≡ true → length (before u) + length (beyond u) ≤ 9
-      → read (record { minus = m; digits = value_of 0 (before u ++ beyond u); places = length (beyond u) }) ≡ plain_of m u
+      → Some (record { minus = m; digits = value_of 0 (before u ++ beyond u); places = length (beyond u) }) ≡ plain_of m u
   unfolding plain_of plain
   accepted e f h = rw (e, f, le-leb (length (before u) + length (beyond u)) 9 h)
 
@@ -121,13 +123,13 @@ module _ (m : Bool) (u : List ℕ) (most l v : ℕ) (rest : List ℕ) (run : Spl
   abbrev a : List ℕ
   a = run.front
 
-  pub no_digit : l ≡ most → malformed ≡ plain_of m u
+  pub no_digit : l ≡ most → None ≡ plain_of m u
   no_digit e =
       let k = run.count in
       let w : u ≡ rest = run.whole ∙ ap (λ (z : List ℕ). z ++ rest) (empty a (omega arith)) in
       no_numeral m u (rw w (none_before rest l (omega arith) run.stops))
 
-  pub ends : (l ≡ most → ⊥) → rest ≡ [] → read (record { minus = m; digits = v; places = 0 }) ≡ plain_of m u
+  pub ends : (l ≡ most → ⊥) → rest ≡ [] → Some (record { minus = m; digits = v; places = 0 }) ≡ plain_of m u
   ends n e =
       let k = run.count in
       let w : u ≡ a = run.whole ∙ ap (λ (z : List ℕ). a ++ z) e ∙ append-nil a in
@@ -137,7 +139,7 @@ module _ (m : Bool) (u : List ℕ) (most l v : ℕ) (rest : List ℕ) (run : Spl
       let i : v ≡ value_of 0 (a ++ []) = run.is ∙ ap (value_of 0) (sym (append-nil a)) in
       rw i (rw (b, c) at (accepted m u (rw b (some_digits a run.all (omega arith))) (rw p) (rw (b, c) (omega arith))))
 
-  pub other : (c : ℕ) (t : List ℕ) → rest ≡ c ∷ t → (c ≡ POINT → ⊥) → malformed ≡ plain_of m u
+  pub other : (c : ℕ) (t : List ℕ) → rest ≡ c ∷ t → (c ≡ POINT → ⊥) → None ≡ plain_of m u
   other c t e n = ⊎_elim (λ (z : l ≡ 0). too_long m u (rw (b, length-append) (omega arith))) (λ (z : digit c ≡ false). no_numeral m u (rw b (no_digits (a ++ c ∷ before t) (digits_other a c (before t) z)))) (subst (Stops l) e run.stops)
     where
       k : length a + l ≡ 9
@@ -160,7 +162,7 @@ module _ (m : Bool) (u : List ℕ) (most l v : ℕ) (rest : List ℕ) (run : Spl
     point : pointed u ≡ true
     point = ap pointed word ∙ pointed_point a t run.all
 
-    pub goes_on : (rest2 : List ℕ) → Split l v t (record { left = l2; value = v2; ahead = rest2 }) → (rest2 ≡ [] → ⊥) → malformed ≡ plain_of m u
+    pub goes_on : (rest2 : List ℕ) → Split l v t (record { left = l2; value = v2; ahead = rest2 }) → (rest2 ≡ [] → ⊥) → None ≡ plain_of m u
     goes_on [] next n = absurd (n refl)
     goes_on (c ∷ w) next n =
         let k = run.count in
@@ -168,14 +170,14 @@ module _ (m : Bool) (u : List ℕ) (most l v : ℕ) (rest : List ℕ) (run : Spl
         ⊎_elim (λ (z : l2 ≡ 0). too_long m u (rw (front, back, next.whole, length-append) (omega arith)))
         (λ (z : digit c ≡ false). no_places m u point (rw (back, next.whole) (no_digits (next.front ++ c ∷ w) (digits_other next.front c w z)))) next.stops
 
-    pub no_place : (rest2 : List ℕ) → Split l v t (record { left = l2; value = v2; ahead = rest2 }) → l2 ≡ l → malformed ≡ plain_of m u
+    pub no_place : (rest2 : List ℕ) → Split l v t (record { left = l2; value = v2; ahead = rest2 }) → l2 ≡ l → None ≡ plain_of m u
     no_place [] next e =
         let j = next.count in
         no_places m u point (rw (back, next.whole, empty next.front (omega arith)))
     no_place (c ∷ w) next e = goes_on (c ∷ w) next (λ z. let y = ap length z in omega arith)
 
     pub with_places : (rest2 : List ℕ) → Split l v t (record { left = l2; value = v2; ahead = rest2 }) → (l ≡ most → ⊥) → (l2 ≡ l → ⊥) → rest2 ≡ []
-        → read (record { minus = m; digits = v2; places = l - l2 }) ≡ plain_of m u
+        → Some (record { minus = m; digits = v2; places = l - l2 }) ≡ plain_of m u
     with_places rest2 next n o e =
         let k = run.count in
         let j = next.count in
@@ -187,16 +189,19 @@ module _ (m : Bool) (u : List ℕ) (most l v : ℕ) (rest : List ℕ) (run : Spl
         rw (i, p) (rw (front, b) at (accepted m u (rw front (some_digits a run.all (omega arith))) g (rw (front, b) (omega arith))))
 
 -- ---- the sign
-pub no_byte : (w : List ℕ) → length w ≡ 0 → Sign w 0
-no_byte w e = rw (empty w e) (record { inside = omega arith; is = refl; rest = refl })
+pub minus_first : (w : List ℕ) → pointwise eqb (take 1 w) (MINUS ∷ []) ≡ true → plain_of true (drop 1 w) ≡ decimal_of w
+unfolding decimal_of
+minus_first [] e = absurd (true≢false (sym e))
+minus_first (c ∷ u) e = rw ((and_parts (eqb c MINUS) true e).0)
 
-pub minus_first : (w : List ℕ) → 0 < length w → get_or w 0 0 ≡ MINUS → Sign w 1
-minus_first [] h e = absurd (omega arith)
-minus_first (c ∷ w) h e = record { inside = h; is = eq-eqb c MINUS e; rest = rw (eq-eqb c MINUS e) }
-
-pub no_minus : (w : List ℕ) → 0 < length w → (get_or w 0 0 ≡ MINUS → ⊥) → Sign w 0
-no_minus [] h n = absurd (omega arith)
-no_minus (c ∷ w) h n = record { inside = omega arith; is = ne_eqb c MINUS n; rest = rw (ne_eqb c MINUS n) }
+pub no_minus : (w : List ℕ) → pointwise eqb (take 1 w) (MINUS ∷ []) ≡ false → plain_of false w ≡ decimal_of w
+unfolding decimal_of
+no_minus [] e = refl
+no_minus (c ∷ u) e = go (eqb c MINUS) e
+  where
+    go : (b : Bool) → b && true ≡ false → plain_of false (c ∷ u) ≡ plain_of b (cond b u (c ∷ u))
+    go true e = absurd (true≢false e)
+    go false e = refl
 
 pub signed : (w : List ℕ) (r : ℕ) → Sign w r → plain_of (eqb r 1) (drop r w) ≡ decimal_of w
 unfolding decimal_of

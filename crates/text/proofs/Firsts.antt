@@ -11,20 +11,12 @@ use lib.Ieee.Bits.{is_true, cond_no}
 use lib.Ieee.Fits.{and_r}
 use lib.ListN.{length, take, drop, drop_of_length-le, length-drop}
 use lib.Seq.{take-nil, drop-drop}
+use Rattle.std.proofs.lemmas.List.{length-take-le}
 use Rattle.text.specs.Bytes.{LF, CR, blank, until}
 use Rattle.text.specs.Lines.{at_LF, at_end, ending, first_line, lines}
 use Rattle.text.specs.Words.{at_blank, at_word, first_word, words}
-use Rattle.text.specs.Decimals.{Read, malformed}
+use Rattle.std.specs.Prelude.{Option, None}
 use Rattle.text.specs.Reading.{next_word, with_rest}
-
--- ---- what the calls give
-pub line_made : (s : List ℕ) (n r : ℕ) → n ≡ until at_end s → r ≡ ending (drop n s) → record { end = n; next = n + r } ≡ first_line s
-unfolding first_line
-line_made s n r e f = rw (f, e)
-
-pub word_made : (s : List ℕ) (n m : ℕ) → n ≡ until at_word s → m ≡ n + until at_blank (drop n s) → record { start = n; end = m } ≡ first_word s
-unfolding first_word
-word_made s n m e f = rw (f, e)
 
 -- ---- lines
 -- the first line's bytes, and the lines after it
@@ -44,14 +36,14 @@ unfolding lines
 after_CR_LF [] h = absurd h
 after_CR_LF (d ∷ s) h = rw (is_true (eqb d LF) h)
 
-until_on : (c : ℕ) (s : List ℕ) → eqb c LF ≡ false → (eqb c CR && at_LF s) ≡ false → until at_end (c ∷ s) ≡ suc (until at_end s)
+pub until_on : (c : ℕ) (s : List ℕ) → eqb c LF ≡ false → (eqb c CR && at_LF s) ≡ false → until at_end (c ∷ s) ≡ suc (until at_end s)
 unfolding until
 until_on c s e f = rw (e, f)
 
 module _ (c : ℕ) (s : List ℕ) where
-  none : (k : ℕ) → ending (c ∷ s) ≡ suc k → until at_end (c ∷ s) ≡ 0
+  pub at_end_first : (k : ℕ) → ending (c ∷ s) ≡ suc k → until at_end (c ∷ s) ≡ 0
   unfolding until
-  none k e = rw (ne_eqb (ending (c ∷ s)) 0 (λ z. omega (arith, e, z)))
+  at_end_first k e = rw (ne_eqb (ending (c ∷ s)) 0 (λ z. omega (arith, e, z)))
 
   here : (k : ℕ) → ending (c ∷ s) ≡ suc k → lines (c ∷ s) ≡ [] ∷ lines (drop (suc k) (c ∷ s)) → First (c ∷ s) 0
   unfolding First
@@ -60,7 +52,7 @@ module _ (c : ℕ) (s : List ℕ) where
   -- a line's end of suc k bytes stands first
   at_once : (k : ℕ) → ending (c ∷ s) ≡ suc k → lines (c ∷ s) ≡ [] ∷ lines (drop (suc k) (c ∷ s)) → First (c ∷ s) (until at_end (c ∷ s))
   at_once k e h =
-      subst (First (c ∷ s)) (sym (none k e)) (here k e h)
+      subst (First (c ∷ s)) (sym (at_end_first k e)) (here k e h)
 
   at_an_LF : eqb c LF ≡ true → First (c ∷ s) (until at_end (c ∷ s))
   unfolding lines
@@ -226,7 +218,7 @@ something_left s h =
     ∙ ap (λ (t : List ℕ). take (n + k - n) (drop n s) ∷ words t) (drop-drop k n s)
 
 -- the first word as f reads it, and the words after it; no word is an empty one
-pub words_first : {A : Type 0} (f : List ℕ → Read A) → f [] ≡ malformed → (s : List ℕ)
+pub words_first : {A : Type 0} (f : List ℕ → Option A) → f [] ≡ None → (s : List ℕ)
     → next_word f (words s) ≡ with_rest (f (take ((first_word s).end - (first_word s).start) (drop (first_word s).start s))) (words (drop (first_word s).end s))
 words_first {A} f e s = go (ltb n (length s)) refl
   where
@@ -240,7 +232,7 @@ words_first {A} f e s = go (ltb n (length s)) refl
     go true h = ap (next_word f) (something_left s (ltb-true n (length s) h))
     go false h =
         let none : take (m - n) (drop n s) ≡ [] = ap (take (m - n)) (drop_of_length-le s {i = n} (ltb-false n (length s) h)) ∙ take-nil (m - n) in
-        ap (next_word f) (nothing_left s (ltb-false n (length s) h)) ∙ ap (λ (r : Read A). with_rest r (words (drop m s))) (sym (ap f none ∙ e))
+        ap (next_word f) (nothing_left s (ltb-false n (length s) h)) ∙ ap (λ (r : Option A). with_rest r (words (drop m s))) (sym (ap f none ∙ e))
 
 -- no word is left where the blanks reach the end
 pub no_word : (s : List ℕ) → (first_word s).start ≡ length s → words s ≡ []
@@ -252,3 +244,30 @@ some_word s h = something_left s (lt_of (word_start_within s) (word_end_within s
   where
     lt_of : {a b c : ℕ} → a ≤ b → b ≤ c → (a ≡ c → ⊥) → a < c
     lt_of {a} {b} {c} f g h = omega (arith, f, g, h)
+
+-- the word as it is lent: empty where there is none
+module _ (s w : List ℕ) (is : w ≡ take ((first_word s).end - (first_word s).start) (drop (first_word s).start s)) where
+  pub empty_word : length w ≡ 0 → words s ≡ []
+  unfolding first_word until
+  empty_word h = go (ltb (until at_word s) (length s)) refl
+    where
+      takes : (t : List ℕ) → at_word t ≡ true → 0 < until at_blank t
+      takes [] e = absurd (subst T (sym e) tt)
+      takes (c ∷ t) e = rw (not-true (blank c) e) (omega arith)
+
+      go : (b : Bool) → ltb (until at_word s) (length s) ≡ b → words s ≡ []
+      go true e =
+          let n = until at_word s in
+          let k = until at_blank (drop n s) in
+          let l : 0 < length (drop n s) = let d : length (drop n s) ≡ length s - n = length-drop n s in omega (arith, d, ltb-true n (length s) e) in
+          let m : length w ≡ k = ap length is ∙ ap (λ j. length (take j (drop n s))) (add-sub_cancel_left n k) ∙ length-take-le k (drop n s) (until_within at_blank (drop n s)) in
+          let p : 0 < k = takes (drop n s) (stop_holds at_word s l) in
+          absurd (omega (arith, m, p, h))
+      go false e = nothing_left s (ltb-false (until at_word s) (length s) e)
+
+  pub lent_word : (length w ≡ 0 → ⊥) → words s ≡ w ∷ words (drop (first_word s).end s)
+  lent_word n = go (ltb (first_word s).start (length s)) refl
+    where
+      go : (b : Bool) → ltb (first_word s).start (length s) ≡ b → words s ≡ w ∷ words (drop (first_word s).end s)
+      go true e = something_left s (ltb-true (first_word s).start (length s) e) ∙ ap (λ v. v ∷ words (drop (first_word s).end s)) (sym is)
+      go false e = absurd (n (ap length is ∙ ap (λ t. length (take ((first_word s).end - (first_word s).start) t)) (drop_of_length-le s {i = (first_word s).start} (ltb-false (first_word s).start (length s) e)) ∙ ap length (take-nil ((first_word s).end - (first_word s).start))))

@@ -5,11 +5,9 @@ use mathlib.Core.List.{List, [], ◌∷◌, ◌++◌}
 use mathlib.Core.Logic.{◌⊎◌, inl, inr}
 use Prim.Native.Nat.{ℕ, zero, suc, ◌+◌, ◌-◌, ◌*◌, ◌^◌, ◌≤◌, ◌<◌}
 use native.Mathlib.Nat.{mul-le-mul_right, mul-le-mul_left, mul_assoc, pow-succ', one-le-pow}
-use native.Mathlib.Numerals.{add-one}
 use native.Mathlib.Omega.{arith}
-use borrow.Author.Tests.{le-leb, lt-leb}
-use lib.ListN.{length, drop, get_or, drop_of_length-le, length-drop}
-use lib.Seq.{drop-cons}
+use lib.ListN.{length, take, drop, get_or, drop_of_length-le}
+use Rattle.std.proofs.lemmas.List.{drop_more, take_rest}
 use Rattle.text.specs.Bytes.{digit}
 use Rattle.text.specs.Decimals.{digits, value_of}
 use Rattle.text.specs.Scan.{State, scan, Ran}
@@ -29,6 +27,10 @@ below v m N h =
     let a : (v + 1) * 1 ≤ (v + 1) * 10 ^ m = mul-le-mul_left (v + 1) (one-le-pow m 10 (omega arith)) in
     omega arith
 
+-- so a digit has room
+pub room : (v x m : ℕ) → (v + 1) * 10 ^ m ≤ 10 ^ 9 → (m ≡ 0 → ⊥) → x ≤ 9 → v * 10 + x < 10 ^ 9
+room v x m h n q = below (v * 10 + x) (m - 1) (10 ^ 9) (smaller v x m (10 ^ 9) h (omega arith) q)
+
 -- ---- a turn
 stay : (m v : ℕ) (c : ℕ) (w : List ℕ) → digit c ≡ false → scan m v (c ∷ w) ≡ record { left = m; value = v; ahead = c ∷ w }
 unfolding scan
@@ -45,41 +47,20 @@ unfolding scan
 out zero v = refl
 out (suc m) v = refl
 
--- what is ahead
-pub none_left : (s : List ℕ) (i : ℕ) → i ≡ length s → drop i s ≡ []
-none_left s i e = drop_of_length-le s {i = i} (omega arith)
-
-pub some_left : (s : List ℕ) (i : ℕ) → i ≤ length s → (i ≡ length s → ⊥) → drop i s ≡ [] → ⊥
-some_left s i h n e = omega (arith, length-drop i s, ap length e, n)
-
-pub first_left : (s : List ℕ) (i : ℕ) → i < length s → drop i s ≡ get_or s i 0 ∷ drop (i + 1) s
-first_left s i h = rw (add-one, drop-cons s i 0 h)
-
-module _ (s : List ℕ) (end m v : ℕ) where
-  -- no more may be taken
-  pub full : m ≡ 0 → scan m v (drop end s) ≡ record { left = m; value = v; ahead = drop end s }
+-- the loop's turns: the run has come to i
+module _ (s : List ℕ) (i m v : ℕ) where
+  pub full : m ≡ 0 → scan m v (drop i s) ≡ record { left = m; value = v; ahead = drop i s }
   unfolding scan
   full e = rw e
 
-  -- no more is there
-  pub over : end ≡ length s → scan m v (drop end s) ≡ record { left = m; value = v; ahead = drop end s }
-  over e = rw (none_left s end e) (out m v)
+  pub over : length s ≤ i → scan m v (drop i s) ≡ record { left = m; value = v; ahead = drop i s }
+  over h = rw (drop_of_length-le s {i = i} h) (out m v)
 
-  pub no_digit_at : end < length s → digit (get_or s end 0) ≡ false → scan m v (drop end s) ≡ record { left = m; value = v; ahead = drop end s }
-  no_digit_at h e = rw (first_left s end h) (stay m v (get_or s end 0) (drop (end + 1) s) e)
+  pub no_digit_at : i < length s → digit (get_or s i 0) ≡ false → scan m v (drop i s) ≡ record { left = m; value = v; ahead = drop i s }
+  no_digit_at h e = rw (drop_more s i 0 h) (stay m v (get_or s i 0) (drop (i + 1) s) e)
 
-  pub digit_at : end < length s → digit (get_or s end 0) ≡ true → 0 < m → scan m v (drop end s) ≡ scan (m - 1) (v * 10 + (get_or s end 0 - 48)) (drop (end + 1) s)
-  digit_at h e p = ap (scan m v) (first_left s end h) ∙ go_on m v (get_or s end 0) (drop (end + 1) s) e p
-
--- ---- the code's two tests
-pub low_byte : (c : ℕ) → c < 48 → digit c ≡ false
-low_byte c h = rw (lt-leb 48 c h)
-
-pub high_byte : (c : ℕ) → 48 ≤ c → 57 < c → digit c ≡ false
-high_byte c h k = rw (le-leb 48 c h, lt-leb c 57 k)
-
-pub digit_byte : (c : ℕ) → 48 ≤ c → c ≤ 57 → digit c ≡ true
-digit_byte c h k = rw (le-leb 48 c h, le-leb c 57 k)
+  pub digit_at : i < length s → digit (get_or s i 0) ≡ true → 0 < m → scan m v (drop i s) ≡ scan (m - 1) (v * 10 + (get_or s i 0 - 48)) (drop (i + 1) s)
+  digit_at h e p = ap (scan m v) (drop_more s i 0 h) ∙ go_on m v (get_or s i 0) (drop (i + 1) s) e p
 
 -- ---- what a run took and what it left
 -- it stops at the end, where it may take no more, or before a byte that is no digit
@@ -113,5 +94,10 @@ split (suc m) v (c ∷ w) = go (digit c) refl (split m (v * 10 + (c - 48)) w)
         record { front = c ∷ r.front; whole = ap (λ (z : List ℕ). c ∷ z) r.whole; all = rw e r.all; count = omega arith; is = r.is; stops = r.stops }
     go false e r = stopped (suc m) v (c ∷ w) (inr e)
 
-pub ran_split : (s : List ℕ) (from m v end l x : ℕ) → Ran s from m v end l x → Split m v (drop from s) (record { left = l; value = x; ahead = drop end s })
-ran_split s from m v end l x r = subst (λ (t : State). Split m v (drop from s) t) r.is (split m v (drop from s))
+pub ran_split : (s : List ℕ) (m v : ℕ) (rest : List ℕ) (l x : ℕ) → Ran s m v rest l x → Split m v s (record { left = l; value = x; ahead = rest })
+ran_split s m v rest l x r = subst (λ (t : State). Split m v s t) r.is (split m v s)
+
+-- ---- the loop's ways to a return: the run has come to i
+module _ (s : List ℕ) (most value i l x : ℕ) (small : (x + 1) * 10 ^ l ≤ 10 ^ 9) (e : scan most value s ≡ scan l x (drop i s)) where
+  pub stopped_at : scan l x (drop i s) ≡ record { left = l; value = x; ahead = drop i s } → Ran s most value (take (length s - i) (drop i s)) l x
+  stopped_at h = record { small = small; is = e ∙ h ∙ ap (λ t. record { left = l; value = x; ahead = t }) (sym (take_rest s i)) }

@@ -10,7 +10,8 @@ use lib.Signed.{mag}
 use mir.Syntax.{w32}
 use mir.Val.{SFits, to_z, of_z}
 use mir.ValLaws.{to_z-of_z, to_z_pos}
-use Rattle.text.specs.Decimals.{read, malformed, whole_in}
+use Rattle.std.specs.Prelude.{Some, None}
+use Rattle.text.specs.Decimals.{whole_in}
 use Rattle.text.specs.declared.Decimal.{Decimal}
 
 -- ---- a number below 10 ^ 9 as an i32, and the same with a minus
@@ -32,15 +33,15 @@ module _ (d : Decimal) (t : ℕ) (is : t ≡ 10 ^ d.places) (few : d.digits < 10
   pub small : d.digits / t < 2 ^ 31
   small = omega (arith, div-le_self d.digits t)
 
-  pub left_over : (d.digits % t ≡ 0 → ⊥) → malformed ≡ whole_in d
+  pub left_over : (d.digits % t ≡ 0 → ⊥) → None ≡ whole_in d
   unfolding whole_in
   left_over n = rw (← is, ne_eqb (d.digits % t) 0 n)
 
   module _ (e : d.digits % t ≡ 0) where
-    pub plus : d.minus ≡ false → read (to_z w32 (d.digits / t)) ≡ whole_in d
+    pub plus : d.minus ≡ false → Some (to_z w32 (d.digits / t)) ≡ whole_in d
     unfolding whole_in
     plus s = rw (s, ← is, eq-eqb (d.digits % t) 0 e, to_z_pos w32 (d.digits / t) small)
 
-    pub minus : d.minus ≡ true → read (to_z w32 (of_z w32 (pos 0 -ℤ to_z w32 (d.digits / t)))) ≡ whole_in d
+    pub minus : d.minus ≡ true → Some (to_z w32 (of_z w32 (pos 0 -ℤ to_z w32 (d.digits / t)))) ≡ whole_in d
     unfolding whole_in
-    minus s = rw (s, ← is, eq-eqb (d.digits % t) 0 e, to_z-of_z w32 (pos 0 -ℤ to_z w32 (d.digits / t)) (minus_fits (d.digits / t) small)) (ap read (minus_is (d.digits / t) small))
+    minus s = rw (s, ← is, eq-eqb (d.digits % t) 0 e, to_z-of_z w32 (pos 0 -ℤ to_z w32 (d.digits / t)) (minus_fits (d.digits / t) small)) (ap Some (minus_is (d.digits / t) small))

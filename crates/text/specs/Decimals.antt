@@ -1,22 +1,14 @@
 -- Decimal numbers. Definitions only.
-use Rattle.std.specs.Prelude.{Bool, true, false, not, ◌&&◌, ◌||◌, cond, List, [], ◌∷◌, ◌++◌, ℕ, ◌+◌, ◌-◌, ◌*◌, ◌/◌, ◌%◌, ◌^◌, eqb, leb, ℤ, pos, neg_ℤ, length, Float}
+use Rattle.std.specs.Prelude.{Bool, true, false, not, ◌&&◌, ◌||◌, cond, List, [], ◌∷◌, ◌++◌, ℕ, ◌+◌, ◌-◌, ◌*◌, ◌/◌, ◌%◌, ◌^◌, eqb, leb, ℤ, pos, neg_ℤ, length, Float, Some, None, Option}
+use Rattle.std.specs.Option.{option_and_then, option_map}
 use Rattle.std.specs.Float.{binary32}
 use Rattle.std.specs.Float.Ieee.{round}
 use Rattle.text.specs.Bytes.{MINUS, POINT, digit}
 use Rattle.text.specs.declared.Decimal.{Decimal}
-use Rattle.text.specs.declared.DecimalAnswer.{DecimalAnswer}
-use Rattle.text.specs.declared.NumberAnswer.{NumberAnswer}
-use Rattle.text.specs.declared.WholeAnswer.{WholeAnswer}
-
--- what is read of some bytes
-pub data Read (A : Type 0) : Type 0 where
-  read : A → Read A
-  malformed : Read A
 
 -- what was read, handed on
-abbrev pub and_then : {A B : Type 0} → Read A → (A → Read B) → Read B
-and_then (read a) k = k a
-and_then malformed k = malformed
+abbrev pub and_then : {A B : Type 0} → Option A → (A → Option B) → Option B
+and_then a k = option_and_then k a
 
 -- ---- the parts of a word
 -- a minus stands first; the bytes after it
@@ -63,11 +55,11 @@ unfoldable pub plain : List ℕ → Bool
 plain u = numeral (before u) && (not (pointed u) || numeral (beyond u)) && leb (length (before u) + length (beyond u)) 9
 
 -- the number of what is plain, where m says whether a minus stands before it
-unfoldable pub plain_of : Bool → List ℕ → Read Decimal
-plain_of m u = cond (plain u) (read (record { minus = m; digits = value_of 0 (before u ++ beyond u); places = length (beyond u) })) malformed
+unfoldable pub plain_of : Bool → List ℕ → Option Decimal
+plain_of m u = cond (plain u) (Some (record { minus = m; digits = value_of 0 (before u ++ beyond u); places = length (beyond u) })) None
 
 -- the number of a word: an optional minus, and what is plain
-unfoldable pub decimal_of : List ℕ → Read Decimal
+unfoldable pub decimal_of : List ℕ → Option Decimal
 decimal_of w = plain_of (is_minus w) (unsigned w)
 
 -- ---- what it is taken for
@@ -84,25 +76,12 @@ abbrev pub whole_part : Decimal → ℤ
 whole_part d = let n = pos (d.digits / 10 ^ d.places) in cond d.minus (neg_ℤ n) n
 
 -- the whole number that a decimal is
-unfoldable pub whole_in : Decimal → Read ℤ
-whole_in d = cond (is_whole d) (read (whole_part d)) malformed
+unfoldable pub whole_in : Decimal → Option ℤ
+whole_in d = cond (is_whole d) (Some (whole_part d)) None
 
 -- a word as an f32, and as a whole number
-unfoldable pub number_of : List ℕ → Read Float
-number_of w = and_then (decimal_of w) (λ d. read (nearest_of d))
+unfoldable pub number_of : List ℕ → Option Float
+number_of w = option_map nearest_of (decimal_of w)
 
-unfoldable pub whole_of : List ℕ → Read ℤ
+unfoldable pub whole_of : List ℕ → Option ℤ
 whole_of w = and_then (decimal_of w) whole_in
-
--- ---- what the calls say: each answer, as what was read
-abbrev pub decimal_said : DecimalAnswer → Read Decimal
-decimal_said (DecimalAnswer.Decimal d) = read d
-decimal_said DecimalAnswer.Malformed = malformed
-
-abbrev pub number_said : NumberAnswer → Read Float
-number_said (NumberAnswer.Number x) = read x
-number_said NumberAnswer.Malformed = malformed
-
-abbrev pub whole_said : WholeAnswer → Read ℤ
-whole_said (WholeAnswer.Whole z) = read z
-whole_said WholeAnswer.Malformed = malformed

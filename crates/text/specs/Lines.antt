@@ -1,7 +1,6 @@
 -- The lines of a text. Definitions only.
 use Rattle.std.specs.Prelude.{Bool, false, not, ◌&&◌, cond, List, [], ◌∷◌, ℕ, ◌+◌, eqb, drop}
 use Rattle.text.specs.Bytes.{LF, CR, onto, until}
-use Rattle.text.specs.declared.FirstLine.{FirstLine}
 
 -- an LF stands first
 abbrev pub at_LF : List ℕ → Bool
@@ -23,5 +22,15 @@ abbrev pub at_end : List ℕ → Bool
 at_end s = not (eqb (ending s) 0)
 
 -- where the first line ends, and where the next one starts
-unfoldable pub first_line : List ℕ → FirstLine
+pub record LinePlaces : Type 0 where
+  pub end : ℕ
+  pub next : ℕ
+
+unfoldable pub first_line : List ℕ → LinePlaces
 first_line s = let n = until at_end s in record { end = n; next = n + ending (drop n s) }
+
+-- a line without the CR that stands last in it
+unfoldable pub without_return : List ℕ → List ℕ
+without_return [] = []
+without_return (c ∷ []) = cond (eqb c CR) [] (c ∷ [])
+without_return (c ∷ d ∷ s) = c ∷ without_return (d ∷ s)

@@ -1,7 +1,6 @@
 -- The words of a line. Definitions only.
 use Rattle.std.specs.Prelude.{Bool, false, not, cond, List, [], ◌∷◌, ℕ, ◌+◌, drop}
 use Rattle.text.specs.Bytes.{blank, onto, until}
-use Rattle.text.specs.declared.FirstWord.{FirstWord}
 
 -- a blank stands first; a byte that is none
 abbrev pub at_blank : List ℕ → Bool
@@ -17,6 +16,10 @@ unfoldable pub words : List ℕ → List (List ℕ)
 words [] = []
 words (c ∷ s) = let rest = words s in cond (blank c) rest (cond (at_word s) (onto c rest) ((c ∷ []) ∷ rest))
 
--- where the first word starts, and where it ends
-unfoldable pub first_word : List ℕ → FirstWord
+-- where the first word starts, and where it ends; without a word both are the end
+pub record WordPlaces : Type 0 where
+  pub start : ℕ
+  pub end : ℕ
+
+unfoldable pub first_word : List ℕ → WordPlaces
 first_word s = let n = until at_word s in record { start = n; end = n + until at_blank (drop n s) }

@@ -5,24 +5,28 @@ mod decimals;
 mod nearest;
 mod spans;
 
-ghost use Rattle.std.specs.Prelude.{◌≡◌};
+ghost use Rattle.std.specs.Prelude.{◌≡◌, drop, slice_range, take};
 ghost use Rattle.text.specs.Bytes.{blank};
 ghost use Rattle.text.specs.Lines.{first_line};
 ghost use Rattle.text.specs.Words.{first_word};
-ghost use Rattle.text.specs.Decimals.{decimal_of, decimal_said, number_of, number_said, whole_of, whole_said};
+ghost use Rattle.text.specs.Decimals.{decimal_of, number_of, whole_of};
 
-// Where the first line ends, without what ends it, and where the next one starts.
+const TAB: u8 = b'\t';
+
+const SPACE: u8 = b' ';
+
+// The first line, without what ends it, and what stands after that.
 #[derive(Clone, Copy)]
-pub struct FirstLine {
-    pub end: usize,
-    pub next: usize,
+pub struct FirstLine<'a> {
+    pub line: &'a [u8],
+    pub rest: &'a [u8],
 }
 
-// Where the first word starts, and where it ends. Without a word both are the end.
+// The first word, and what stands after it. Without a word both are empty.
 #[derive(Clone, Copy)]
-pub struct FirstWord {
-    pub start: usize,
-    pub end: usize,
+pub struct FirstWord<'a> {
+    pub word: &'a [u8],
+    pub rest: &'a [u8],
 }
 
 // A decimal number: its digits as one whole number, and how many of them stand after the point.
@@ -33,32 +37,17 @@ pub struct Decimal {
     pub places: u32,
 }
 
-#[derive(Clone, Copy)]
-pub enum DecimalAnswer {
-    Decimal(Decimal),
-    Malformed,
-}
-
-#[derive(Clone, Copy)]
-pub enum NumberAnswer {
-    Number(f32),
-    Malformed,
-}
-
-#[derive(Clone, Copy)]
-pub enum WholeAnswer {
-    Whole(i32),
-    Malformed,
-}
-
-pub fn first_line(s: &[u8]) -> FirstLine
-    ensures answer { result ≡ first_line s.now }
+pub fn first_line(s: &[u8]) -> FirstLine<'_>
+    ensures line { result.line.now ≡ take (first_line s.now).end s.now }
+    ensures rest { result.rest.now ≡ drop (first_line s.now).next s.now }
     ensures kept { s.exit.now ≡ s.entry.now }
 {
-    let end = spans::line_end(s);
+    let Some(at) = spans::line_feed(s) else {
+        return FirstLine { line: s, rest: &[] };
+    };
     FirstLine {
-        end,
-        next: end + spans::ending(s, end),
+        line: spans::without_return(&s[..at]),
+        rest: &s[at + 1..],
     }
 }
 
@@ -66,50 +55,42 @@ pub fn first_line(s: &[u8]) -> FirstLine
 pub fn is_blank(c: u8) -> bool
     ensures { result ≡ blank c }
 {
-    if c == spans::SPACE {
-        return true;
-    }
-    c == spans::TAB
+    c == SPACE || c == TAB
 }
 
-pub fn first_word(s: &[u8]) -> FirstWord
-    ensures answer { result ≡ first_word s.now }
+pub fn first_word(s: &[u8]) -> FirstWord<'_>
+    ensures word { let w = first_word s.now in result.word.now ≡ slice_range s.now w.start w.end }
+    ensures rest { result.rest.now ≡ drop (first_word s.now).end s.now }
     ensures kept { s.exit.now ≡ s.entry.now }
 {
-    let start = spans::blanks(s);
-    FirstWord {
-        start,
-        end: spans::word_end(s, start),
-    }
+    let words = &s[spans::blanks(s)..];
+    let (word, rest) = words.split_at(spans::word_len(words));
+    FirstWord { word, rest }
 }
 
 // A word as a number: an optional minus, digits, and optionally a point with digits after it; nine
 // digits at most.
-pub fn read_decimal(s: &[u8]) -> DecimalAnswer
-    ensures answer { decimal_said result ≡ decimal_of s.now }
+pub fn read_decimal(s: &[u8]) -> Option<Decimal>
+    ensures answer { result ≡ decimal_of s.now }
     ensures kept { s.exit.now ≡ s.entry.now }
 {
     decimals::read_decimal(s)
 }
 
 // The f32 nearest to it, ties to even.
-pub fn read_number(s: &[u8]) -> NumberAnswer
-    ensures answer { number_said result ≡ number_of s.now }
+#[tactic(auto, using(crate::proofs::Bounds::bounds), unfolding(crate::specs::Decimals::number_of))]
+pub fn read_number(s: &[u8]) -> Option<f32>
+    ensures answer { result ≡ number_of s.now }
     ensures kept { s.exit.now ≡ s.entry.now }
 {
-    match read_decimal(s) {
-        DecimalAnswer::Decimal(d) => NumberAnswer::Number(nearest::nearest(d)),
-        DecimalAnswer::Malformed => NumberAnswer::Malformed,
-    }
+    Some(nearest::nearest(read_decimal(s)?))
 }
 
 // A number whose digits after the point are all 0.
-pub fn read_whole(s: &[u8]) -> WholeAnswer
-    ensures answer { whole_said result ≡ whole_of s.now }
+#[tactic(auto, using(crate::proofs::Bounds::bounds), unfolding(crate::specs::Decimals::whole_of))]
+pub fn read_whole(s: &[u8]) -> Option<i32>
+    ensures answer { result ≡ whole_of s.now }
     ensures kept { s.exit.now ≡ s.entry.now }
 {
-    match read_decimal(s) {
-        DecimalAnswer::Decimal(d) => nearest::whole(d),
-        DecimalAnswer::Malformed => WholeAnswer::Malformed,
-    }
+    nearest::whole(read_decimal(s)?)
 }

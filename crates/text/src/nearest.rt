@@ -1,27 +1,10 @@
 // What a decimal number is taken for: the nearest f32, and a whole number. Over whole numbers alone.
 ghost use Rattle.std.specs.Prelude.{◌≡◌, ◌<◌, ◌≤◌, ◌+◌, ◌*◌, ◌^◌};
 ghost use Rattle.std.specs.Float.Ieee.Nearest.{closest};
-ghost use Rattle.text.specs.Decimals.{nearest_of, whole_in, whole_said};
+ghost use Rattle.text.specs.Decimals.{nearest_of, whole_in};
 ghost use Rattle.text.specs.Rounding.{Long, Lifted, Extra, Normal, Packed};
 
-use crate::{Decimal, WholeAnswer};
-
-fn ten_to(places: u32) -> u32
-    requires { places ≤ 8 }
-    ensures { result ≡ 10 ^ places }
-{
-    match places {
-        0 => 1,
-        1 => 10,
-        2 => 100,
-        3 => 1000,
-        4 => 10000,
-        5 => 100000,
-        6 => 1000000,
-        7 => 10000000,
-        _ => 100000000,
-    }
-}
+use crate::Decimal;
 
 // A number with its leading digit brought to the 32nd place, and by how many places.
 #[derive(Clone, Copy)]
@@ -96,7 +79,7 @@ pub fn nearest(d: Decimal) -> f32
     requires { d.places ≤ 8 }
     ensures { result ≡ nearest_of d }
 {
-    let bits = packed(d.digits, ten_to(d.places));
+    let bits = packed(d.digits, 10u32.pow(d.places));
     if d.minus {
         return f32::from_bits(0x8000_0000 + bits);
     }
@@ -104,18 +87,15 @@ pub fn nearest(d: Decimal) -> f32
 }
 
 // A number whose digits after the point are all 0.
-pub fn whole(d: Decimal) -> WholeAnswer
+pub fn whole(d: Decimal) -> Option<i32>
     requires digits_bound { d.digits < 10 ^ 9 }
     requires places_bound { d.places ≤ 8 }
-    ensures { whole_said result ≡ whole_in d }
+    ensures { result ≡ whole_in d }
 {
-    let ten = ten_to(d.places);
+    let ten = 10u32.pow(d.places);
     if d.digits % ten != 0 {
-        return WholeAnswer::Malformed;
+        return None;
     }
     let n = (d.digits / ten) as i32;
-    if d.minus {
-        return WholeAnswer::Whole(0 - n);
-    }
-    WholeAnswer::Whole(n)
+    Some(if d.minus { -n } else { n })
 }

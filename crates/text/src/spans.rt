@@ -1,76 +1,39 @@
 // How far blanks, a word and a line go.
-ghost use Rattle.std.specs.Prelude.{◌≡◌, ◌≤◌, ◌<◌, ◌+◌, length, drop};
-ghost use Rattle.text.specs.Bytes.{until};
-ghost use Rattle.text.specs.Lines.{at_end, ending};
-ghost use Rattle.text.specs.Words.{at_blank, at_word};
+ghost use Rattle.std.specs.Prelude.{◌≡◌, ◌==◌, length, not};
+ghost use Rattle.std.specs.List.{position, take_while};
+ghost use Rattle.text.specs.Bytes as bytes;
+ghost use Rattle.text.specs.Bytes.{blank};
+ghost use Rattle.text.specs.Lines.{without_return};
 
-const LF: u8 = 10;
+const LF: u8 = b'\n';
 
-const CR: u8 = 13;
+const CR: &[u8] = b"\r";
 
-pub const TAB: u8 = 9;
-
-pub const SPACE: u8 = 32;
-
-// How long the line's end is that stands at `at`: LF, or CR LF. 0 where there is none.
-pub fn ending(s: &[u8], at: usize) -> usize
-    requires { at ≤ length s.now }
-    ensures { (result ≡ ending (drop at s.now)) × (at + result ≤ length s.now) }
+// Where the first line feed stands.
+pub fn line_feed(s: &[u8]) -> Option<usize>
+    ensures { result ≡ position (λ c. c == bytes.LF) s.now }
 {
-    if at == s.len() {
-        return 0;
-    }
-    if s[at] == LF {
-        return 1;
-    }
-    if s[at] != CR {
-        return 0;
-    }
-    if at + 1 == s.len() {
-        return 0;
-    }
-    if s[at + 1] == LF {
-        return 2;
-    }
-    0
+    s.iter().position(|c| *c == LF)
 }
 
-pub fn line_end(s: &[u8]) -> usize
-    ensures { (result ≡ until at_end s.now) × (result ≤ length s.now) }
+// A line without the carriage return that stands last in it.
+#[tactic(auto, using(crate::proofs::Places::return_last, crate::proofs::Places::other_last))]
+pub fn without_return(line: &[u8]) -> &[u8]
+    ensures { result.now ≡ without_return line.now }
 {
-    let mut i = 0usize;
-    while i < s.len() {
-        if ending(s, i) != 0 {
-            return i;
-        }
-        i += 1;
-    }
-    i
+    line.strip_suffix(CR).unwrap_or(line)
 }
 
+// How many blanks stand first.
 pub fn blanks(s: &[u8]) -> usize
-    ensures { (result ≡ until at_word s.now) × (result ≤ length s.now) }
+    ensures { result ≡ length (take_while blank s.now) }
 {
-    let mut i = 0usize;
-    while i < s.len() {
-        if !crate::is_blank(s[i]) {
-            return i;
-        }
-        i += 1;
-    }
-    i
+    s.iter().take_while(|c| crate::is_blank(**c)).count()
 }
 
-pub fn word_end(s: &[u8], from: usize) -> usize
-    requires { from ≤ length s.now }
-    ensures { (result ≡ from + until at_blank (drop from s.now)) × (result ≤ length s.now) }
+// How long the word is that stands first.
+pub fn word_len(s: &[u8]) -> usize
+    ensures { result ≡ length (take_while (λ c. not (blank c)) s.now) }
 {
-    let mut i = from;
-    while i < s.len() {
-        if crate::is_blank(s[i]) {
-            return i;
-        }
-        i += 1;
-    }
-    i
+    s.iter().take_while(|c| !crate::is_blank(**c)).count()
 }

@@ -13,14 +13,14 @@ use lib.Ieee.Exact.{HasValue}
 use lib.Ieee.Bits.{is_true}
 use borrow.Author.Tests.{leb-true, leb-false, ltb-true, ltb-false, eqb-true, eqb-false, lt-leb, le-leb}
 use Rattle.exact.specs.Tests.{circle}
-use Rattle.refusals.specs.Paper.{answered, paper}
-use Rattle.refusals.proofs.Laws.{passed, paper_one, no_answer, answered_one}
+use Rattle.std.specs.Prelude.{Ok, Err, Result}
+use Rattle.refusals.specs.Paper.{answered, paper, said}
+use Rattle.refusals.proofs.Laws.{passed, answered_one, said_one}
+use Rattle.refusals.specs.declared.Refusal.{Refusal}
 use Rattle.refusals.specs.declared.Refusal.TheVariants.{Angle}
 use Rattle.float32.proofs.Bits.{float_back}
 use Rattle.trig.specs.declared.Pair.{Pair}
-use Rattle.trig.specs.declared.PairAnswer.{PairAnswer}
-use Rattle.trig.specs.declared.PairAnswer.TheVariants.{Made, Refused}
-use Rattle.trig.specs.Fixed.{cosine_top, small_pair, lift_by, near_pair, left_of, far_pair, pair_of, pair_at, less90, more90, less180, below, accepted, said, sine_says}
+use Rattle.trig.specs.Fixed.{cosine_top, small_pair, lift_by, near_pair, left_of, far_pair, pair_of, pair_at, less90, more90, less180, below, accepted, sine_says}
 use Rattle.trig.specs.Angle.{SineOf, CosineOf, Turned, TurnedAt, PairOf, OnCircle}
 use Rattle.float32.proofs.Values.{negated}
 use Rattle.trig.proofs.Squares.{n_most}
@@ -268,21 +268,14 @@ made_pair x p e =
     let q = passed (accepted x) Angle (answered (pair_at x)) p e in
     (subst T (sym q.0) tt, answered_one (pair_at x) p q.1)
 
-pub answer_near : (x : Float) (r : PairAnswer) → T (fits binary32 x) → said r ≡ sine_says x → PairOf x r
-answer_near x r held e = λ p m. let q = made_pair x p (sym e ∙ ap said m) in subst (λ (z : Pair). TurnedAt x z) q.1 (turned_at x held q.0)
+pub answer_near : (x : Float) (r : Result Pair Refusal) → fits binary32 x ≡ true → said r ≡ sine_says x → PairOf x r
+answer_near x (Ok p) held e = let q = made_pair x p (sym e) in subst (TurnedAt x) q.1 (turned_at x (subst T (sym held) tt) q.0)
+answer_near x (Err k) held e = tt
 
-pub answer_on_circle : (x : Float) (r : PairAnswer) → T (fits binary32 x) → said r ≡ sine_says x → OnCircle r
-answer_on_circle x r held e = λ p m. let q = made_pair x p (sym e ∙ ap said m) in subst (λ (z : Pair). T (circle z.sine z.cosine)) q.1 (pair_on_circle x held q.0)
-
-pub answer_all : (x : Float) (r : PairAnswer) → fits binary32 x ≡ true → said r ≡ sine_says x → (said r ≡ sine_says x) × (PairOf x r × OnCircle r)
-answer_all x r held e = let h : T (fits binary32 x) = subst T (sym held) tt in (e, (answer_near x r h e, answer_on_circle x r h e))
+pub answer_on_circle : (x : Float) (r : Result Pair Refusal) → fits binary32 x ≡ true → said r ≡ sine_says x → OnCircle r
+answer_on_circle x (Ok p) held e = let q = made_pair x p (sym e) in subst (λ (z : Pair). T (circle z.sine z.cosine)) q.1 (pair_on_circle x (subst T (sym held) tt) q.0)
+answer_on_circle x (Err k) held e = tt
 
 -- the contract leaves one answer
-pub answer_one : (x : Float) (r s : PairAnswer) → said r ≡ sine_says x → said s ≡ sine_says x → r ≡ s
-answer_one x r s p q = go r s (p ∙ sym q)
-  where
-    go : (r s : PairAnswer) → said r ≡ said s → r ≡ s
-    go (Made a) (Made b) e = let h : a ≡ b = answered_one a b e in cc
-    go (Made a) (Refused k) e = absurd (no_answer k a (sym e))
-    go (Refused k) (Made a) e = absurd (no_answer k a e)
-    go (Refused k) (Refused l) e = let h : k ≡ l = paper_one k l e in cc
+pub answer_one : (x : Float) (r s : Result Pair Refusal) → said r ≡ sine_says x → said s ≡ sine_says x → r ≡ s
+answer_one x r s p q = said_one r s (p ∙ sym q)

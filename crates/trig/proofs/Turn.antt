@@ -1,7 +1,7 @@
 -- The angle by its bit pattern, and the pair of each part of the half circle. Assumes nothing.
 use mathlib.Core.Path.{◌≡◌, refl, sym, ap, ◌∙◌}
 use Prim.Native.Nat.{ℕ, zero, suc, ◌+◌, ◌-◌, ◌*◌, ◌/◌, ◌%◌, ◌^◌, ◌≤◌, ◌<◌}
-use native.Mathlib.Nat.{le_trans, le_of_eq, mul_assoc, mul-le-mul_right, pow-le-pow_right, lt_of_le_of_lt, lt_of_lt_of_le, lt_of_mul-lt-mul_right, mul-lt-mul_of_pos_right}
+use native.Mathlib.Nat.{zero-mul, le_trans, le_of_eq, mul_assoc, mul-le-mul_right, pow-le-pow_right, lt_of_le_of_lt, lt_of_lt_of_le, lt_of_mul-lt-mul_right, mul-lt-mul_of_pos_right}
 use native.Mathlib.Omega.{arith}
 use mathlib.Core.Bool.{Bool, true, false, not}
 use lib.Dec.{leb, eqb, lit<}
@@ -12,7 +12,7 @@ use lib.Ieee.Digits.{size-lt, size_reaches, size-le}
 use lib.Ieee.Exact.{HasValue}
 use borrow.Author.Tests.{leb-true, leb-false, eq-eqb, ne_eqb, eqb-true, eqb-false}
 use Rattle.trig.specs.declared.Pair.{Pair}
-use Rattle.float32.proofs.Values.{cancel, powers, same, normal, few}
+use Rattle.float32.proofs.Values.{shift_whole, cancel, powers, same, normal, few}
 use Rattle.trig.specs.Fixed.{lift_by}
 use Rattle.trig.specs.Angle.{SineOf, CosineOf, Turned}
 
@@ -93,6 +93,19 @@ lifts y h = go (eqb y 0) refl
 
 pub lifted_most : (y m k : ℕ) → y ≤ 11796480 → y * 2 ^ k ≡ m → m ≤ 11796480 * 2 ^ k
 lifted_most y m k h e = le_trans (le_of_eq (sym e)) (mul-le-mul_right (2 ^ k) h)
+
+-- what is made of y on each way is `lift_by`'s
+pub zero_lifted : (y : ℕ) → y ≡ 0 → (0 ≡ y * 2 ^ lift_by y) × (131 ≡ lift_by y)
+zero_lifted y z = (sym (ap (λ (x : ℕ). x * 2 ^ lift_by y) z ∙ zero-mul (2 ^ lift_by y)), sym (lift_zero y z))
+
+pub some_lifted : (y : ℕ) → (y ≡ 0 → ⊥) → y ≤ 11796480 → (y * 2 ^ (count_leading_zeros 64 y - 40) % 18446744073709551616 ≡ y * 2 ^ lift_by y) × (count_leading_zeros 64 y - 40 ≡ lift_by y)
+some_lifted y z h =
+    let b = lifted_by y (above y z) h in
+    (shift_whole y (count_leading_zeros 64 y - 40) (omega arith) (omega (arith, b.1)) ∙ ap (λ (x : ℕ). y * 2 ^ x) b.2, b.2)
+
+-- and fits
+pub lifted_fits : (y m k : ℕ) → y ≤ 11796480 → (m ≡ y * 2 ^ lift_by y) × (k ≡ lift_by y) → (m < 2 ^ 24) × (m ≤ 11796480 * 2 ^ k) × (k ≤ 131)
+lifted_fits y m k h e = let l = lifts y h in rw (e.0, e.1) (l.less, lifted_most y _ _ h refl, l.few)
 
 pub lifted_same : (y m k n d : ℕ) → y * 2 ^ k ≡ m → n * 262144 ≡ y * d → n * (2 ^ k * 262144) ≡ m * d
 lifted_same y m k n d e f = left n (2 ^ k) ∙ ap (λ (x : ℕ). x * 2 ^ k) f ∙ right y d (2 ^ k) ∙ ap (λ (x : ℕ). x * d) e

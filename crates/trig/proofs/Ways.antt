@@ -17,7 +17,7 @@ pub small_is : (m k s c : ℕ) (x y : Float) → x ≡ float_of s → s ≡ sine
 unfolding small_pair
 small_is m k s c x y e f g h = rw (e, f, g, h)
 
-pub near_is : (y m k : ℕ) (p : Pair) → p ≡ small_pair m k → m ≡ y * 2 ^ lift_by y → k ≡ lift_by y → p ≡ near_pair y
+near_is : (y m k : ℕ) (p : Pair) → p ≡ small_pair m k → m ≡ y * 2 ^ lift_by y → k ≡ lift_by y → p ≡ near_pair y
 unfolding near_pair
 near_is y m k p e f g = e ∙ rw (f, g)
 
@@ -34,19 +34,6 @@ pub of_far : (b y : ℕ) (p : Pair) → 1110704128 < b → y ≡ (b % 8388608 + 
 unfolding pair_of
 of_far b y p l e f = f ∙ rw (ne_eqb (b / 8388608) 0 (λ z. omega arith), lt-leb b 1110704128 l) (ap far_pair e)
 
-module _ (y : ℕ) where
-  pub left_90 : y ≤ 23592960 → 23592960 - y ≡ left_of y
-  unfolding left_of
-  left_90 h = rw (le-leb y 23592960 h)
-
-  pub left_135 : 23592960 < y → y ≤ 35389440 → y - 23592960 ≡ left_of y
-  unfolding left_of
-  left_135 g h = rw (lt-leb y 23592960 g, le-leb y 35389440 h)
-
-  pub left_180 : 23592960 < y → 35389440 < y → 47185920 - y ≡ left_of y
-  unfolding left_of
-  left_180 g h = rw (lt-leb y 23592960 g, lt-leb y 35389440 h)
-
 -- the sine and the cosine, each chosen by itself: a is y ≤ 90 degrees, b y ≤ 135
 quadrant : (p : Pair) (a b : Bool) → (T a → T b)
     → ◌≡◌ {A = Pair} (record { sine = cond b p.cosine p.sine; cosine = cond b (cond a p.sine (neg p.sine)) (neg p.cosine) }) (cond a (less90 p) (cond b (more90 p) (less180 p)))
@@ -55,21 +42,22 @@ quadrant p true false h = absurd (h tt)
 quadrant p false true h = refl
 quadrant p false false h = refl
 
-pub far_is : (y : ℕ) (p : Pair) (s c : Float) → p ≡ near_pair (left_of y) → s ≡ cond (leb y 35389440) p.cosine p.sine
+pub far_is : (y l m k : ℕ) (p : Pair) (s c : Float) → l ≡ left_of y → m ≡ l * 2 ^ lift_by l → k ≡ lift_by l → p ≡ small_pair m k → s ≡ cond (leb y 35389440) p.cosine p.sine
     → c ≡ cond (leb y 35389440) (cond (leb y 23592960) p.sine (neg p.sine)) (neg p.cosine) → ◌≡◌ {A = Pair} (record { sine = s; cosine = c }) (far_pair y)
 unfolding far_pair
-far_is y p s c f g h =
-    rw (g, h, sym f)
+far_is y l m k p s c a d e f g h =
+    let n : p ≡ near_pair (left_of y) = near_is l m k p f d e ∙ ap near_pair a in
+    rw (g, h, sym n)
     (quadrant p (leb y 23592960) (leb y 35389440) (λ t. le→leb y 35389440 (le_trans {m = 23592960} (leb→le y 23592960 t) (lit≤ tt))))
 
 -- ---- the entry
-module _ (x : Float) (r : Bool) (e : r ≡ not (between (of_bits binary32 0xc3340000) (of_bits binary32 0x43340000) x)) where
+module _ (x : Float) (r : Bool) (e : r ≡ not (between (neg (of_bits binary32 0x43340000)) (of_bits binary32 0x43340000) x)) where
   pub out : r ≡ true → accepted x ≡ false
-  unfolding accepted
+  unfolding accepted of_bits neg
   out f = not-true _ (sym e ∙ f)
 
   pub inside : r ≡ false → accepted x ≡ true
-  unfolding accepted
+  unfolding accepted of_bits neg
   inside f = not-false _ (sym e ∙ f)
 
 pub bits_in : (x : Float) (b : ℕ) → fits binary32 x ≡ true → accepted x ≡ true → b ≡ bits_of x → b % 2147483648 ≤ 1127481344

@@ -1,7 +1,7 @@
 -- Facts on the code's whole numbers. Assumes nothing.
 use mathlib.Core.Path.{◌≡◌, refl, sym, ap, ◌∙◌}
 use Prim.Native.Nat.{ℕ, ◌+◌, ◌-◌, ◌*◌, ◌/◌, ◌^◌, ◌≤◌, ◌<◌}
-use native.Mathlib.Nat.{mul_assoc, mul-le-mul, mul-le-mul_left, mul-le-mul_right, div-le_of_le-mul, div-eq_of_lt, pow-le-pow_right}
+use native.Mathlib.Nat.{mul_assoc, mul-le-mul, mul-le-mul_right, div-le_of_le-mul, div-eq_of_lt, pow-le-pow_right}
 use native.Mathlib.Omega.{arith}
 use lib.Dec.{lit<}
 use lib.Pow.{pow_pos}
@@ -58,12 +58,6 @@ square_fits a h = mul-le-mul h h
 pub square_most : (m k : ℕ) → m ≤ 11796480 * 2 ^ k → square_of m k ≤ 2649400000
 unfolding square_of
 square_most m k h = omega (arith, square_fits (m * 64 / 2 ^ k) (angle_most m k h))
-
-step_low : (z h n : ℕ) → h ≤ 4294967296 → 0 < n → z * h / (n * 4294967296) ≤ z
-step_low z h n l k = div-le_of_le-mul (n * 4294967296) (shape (mul-le-mul_left z l) (mul-le-mul_right (z * 4294967296) k))
-  where
-    shape : z * h ≤ z * 4294967296 → 1 * (z * 4294967296) ≤ n * (z * 4294967296) → z * h ≤ n * 4294967296 * z
-    shape a b = omega arith
 
 pub sine_part_low : (z : ℕ) → z ≤ 2649400000 → 3853400629 ≤ sine_part z
 unfolding sine_part in_units step_of

@@ -1,12 +1,11 @@
 -- What the pair of an f32 of degrees is, from -180 to 180. Definitions only.
-use Rattle.std.specs.Prelude.{ℕ, ◌-◌, ◌*◌, ◌≤◌, ◌<◌, ◌≡◌, Bool, true, false, T, Float}
+use Rattle.std.specs.Prelude.{ℕ, ◌-◌, ◌*◌, ◌≤◌, ◌<◌, ◌≡◌, Bool, true, false, T, Float, Result, IfOk}
 use Rattle.std.specs.Float.{nan, inf, fin}
 use Rattle.std.specs.Float.Ieee.{up, down}
 use Rattle.exact.specs.Tests.{circle}
+use Rattle.refusals.specs.declared.Refusal.{Refusal}
 use Rattle.trig.specs.Circle.{IsSine, IsCosine}
 use Rattle.trig.specs.declared.Pair.{Pair}
-use Rattle.trig.specs.declared.PairAnswer.{PairAnswer}
-use Rattle.trig.specs.declared.PairAnswer.TheVariants.{Made}
 
 -- r has the sign s, and in size it is the sine of n / d degrees within 2 ^ -22, for n / d from 0 to 45: exactly 0 at 0. And so for the cosine: exactly 1 at 0.
 abbrev pub SineOf : Bool → ℕ → ℕ → Float → Type 0
@@ -33,9 +32,9 @@ TurnedAt (inf s) p = ⊥
 TurnedAt (fin s m e) p = Turned s (m * up e) (down e) p
 
 -- what a made pair is: the sine and the cosine of x degrees
-abbrev pub PairOf : Float → PairAnswer → Type 0
-PairOf x r = (p : Pair) → r ≡ Made p → TurnedAt x p
+abbrev pub PairOf : Float → Result Pair Refusal → Type 0
+PairOf x r = IfOk r (TurnedAt x)
 
 -- a made pair passes the circle test
-abbrev pub OnCircle : PairAnswer → Type 0
-OnCircle r = (p : Pair) → r ≡ Made p → T (circle p.sine p.cosine)
+abbrev pub OnCircle : Result Pair Refusal → Type 0
+OnCircle r = IfOk r (λ p. T (circle p.sine p.cosine))

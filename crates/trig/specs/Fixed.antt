@@ -1,5 +1,5 @@
 -- What `sine_and_cosine` says, worked out in whole numbers. Definitions only. How near it is to a sine and a cosine is said in `Angle`.
-use Rattle.std.specs.Prelude.{Bool, cond, leb, ltb, eqb, Float, ℕ, zero, suc, ◌+◌, ◌-◌, ◌*◌, ◌/◌, ◌%◌, ◌^◌}
+use Rattle.std.specs.Prelude.{Bool, if◌then◌else◌, nat_le, nat_lt, ◌==◌, Float, ℕ, zero, suc, ◌+◌, ◌-◌, ◌*◌, ◌/◌, ◌%◌, ◌^◌}
 use Rattle.std.specs.Float.{binary32}
 use Rattle.std.specs.Float.Ieee.{of_bits, neg, size}
 use Rattle.exact.specs.Tests.{between}
@@ -8,8 +8,6 @@ use Rattle.refusals.specs.declared.Refusal.TheVariants.{Angle}
 use Rattle.float32.specs.Bits.{bits_of, float_of}
 use Rattle.trig.specs.Circle.{Terms, circular}
 use Rattle.trig.specs.declared.Pair.{Pair}
-use Rattle.trig.specs.declared.PairAnswer.{PairAnswer}
-use Rattle.trig.specs.declared.PairAnswer.TheVariants.{Made, Refused}
 
 -- ---- a sum in fixed point, W units being one
 -- one term more: 1 - a * z / b * h
@@ -45,8 +43,8 @@ cosine_top m k = (cosine_part (square_of m k) + 128) / 256
 unfoldable pub sine_bits : ℕ → ℕ → ℕ
 sine_bits m k =
     let p = sine_long m k in
-    cond (leb 126 k) ((p / 2 ^ (k - 87) + 1) / 2)
-    (cond (ltb p 9223372036854775808) ((125 - k) * 8388608 + (p + 274877906944) / 549755813888) ((126 - k) * 8388608 + (p + 549755813888) / 1099511627776))
+    if nat_le 126 k then (p / 2 ^ (k - 87) + 1) / 2
+    else (if nat_lt p 9223372036854775808 then (125 - k) * 8388608 + (p + 274877906944) / 549755813888 else (126 - k) * 8388608 + (p + 549755813888) / 1099511627776)
 
 unfoldable pub cosine_bits : ℕ → ℕ → ℕ
 cosine_bits m k = 1048576000 + cosine_top m k
@@ -58,7 +56,7 @@ small_pair m k = record { sine = float_of (sine_bits m k); cosine = float_of (co
 
 -- how many places bring the leading digit of y to the 24th
 unfoldable pub lift_by : ℕ → ℕ
-lift_by y = cond (eqb y 0) 131 (24 - size y)
+lift_by y = if y == 0 then 131 else 24 - size y
 
 -- of y of 2 ^ -18 degree, at most 45 degrees
 unfoldable pub near_pair : ℕ → Pair
@@ -79,21 +77,21 @@ below p = record { sine = neg p.sine; cosine = p.cosine }
 
 -- how far y of 2 ^ -18 degree, from 45 to 180 degrees, is from the nearest of 90 and 180 degrees
 unfoldable pub left_of : ℕ → ℕ
-left_of y = cond (leb y 23592960) (23592960 - y) (cond (leb y 35389440) (y - 23592960) (47185920 - y))
+left_of y = if nat_le y 23592960 then 23592960 - y else (if nat_le y 35389440 then y - 23592960 else 47185920 - y)
 
 -- of such a y
 unfoldable pub far_pair : ℕ → Pair
 far_pair y =
     let p = near_pair (left_of y) in
-    cond (leb y 23592960) (less90 p) (cond (leb y 35389440) (more90 p) (less180 p))
+    if nat_le y 23592960 then less90 p else (if nat_le y 35389440 then more90 p else less180 p)
 
 -- of the bit pattern b, from 0 to 180 degrees; 1110704128 is that of 45
 unfoldable pub pair_of : ℕ → Pair
 pair_of b =
     let e = b / 8388608 in
     let t = b % 8388608 in
-    cond (eqb e 0) (small_pair t 131)
-    (cond (leb b 1110704128) (small_pair (t + 8388608) (132 - e)) (far_pair ((t + 8388608) * 2 ^ (e - 132))))
+    if e == 0 then small_pair t 131
+    else (if nat_le b 1110704128 then small_pair (t + 8388608) (132 - e) else far_pair ((t + 8388608) * 2 ^ (e - 132)))
 
 -- ---- the entry
 -- from -180 to 180: no NaN and no infinity
@@ -101,11 +99,7 @@ unfoldable pub accepted : Float → Bool
 accepted x = between (of_bits binary32 0xc3340000) (of_bits binary32 0x43340000) x
 
 unfoldable pub pair_at : Float → Pair
-pair_at x = let p = pair_of (bits_of x % 2147483648) in cond (ltb (bits_of x) 2147483648) p (below p)
-
-abbrev pub said : PairAnswer → Paper Pair
-said (Made p) = answered p
-said (Refused k) = paper k
+pair_at x = let p = pair_of (bits_of x % 2147483648) in if nat_lt (bits_of x) 2147483648 then p else below p
 
 -- the pair, and refusal 16 where the angle is not finite or not from -180 to 180
 unfoldable pub sine_says : Float → Paper Pair

@@ -2,7 +2,7 @@
 -- its own numbers, and where all pass, a u16 holds the year, the epoch year and the day. Assumes nothing.
 use mathlib.Core.Path.{◌≡◌, refl, sym, ap, ◌∙◌}
 use mathlib.Core.Bool.{true, false}
-use mathlib.Core.Logic.{⊎_elim}
+use borrow.Author.Rules.{rules}
 use Prim.Native.Nat.{ℕ, ◌<◌, ◌^◌}
 use native.Mathlib.Omega.{arith}
 use lib.Dec.{T}
@@ -17,6 +17,7 @@ use Rattle.models.specs.Signed.{fits_epoch}
 use Rattle.models.specs.Dated.{Dated}
 use Rattle.models.proofs.Dated.{accepted, longest_year}
 use Rattle.models.proofs.epochs.day_from.Goals as goal
+use Rattle.models.proofs.epochs.day_from.Goals.{then-day_of_year-lt1-via-then-day_of_year-lt1, then-day_of_year-lt1-via-else-day_of_year-lt1+then-days-day_of_year, then-year-first-via-then-year-first, then-year-first-via-else-year-first+then-year-gt-LAST_YEAR}
 
 -- ---- the tests, over the numbers that the words stand for
 low : {d : ℤ} → SFits w32 d → lt_z (to_z w32 (of_z w32 d)) (pos 1) ≡ lt_z d (pos 1)
@@ -48,27 +49,39 @@ too_late : (y : ℤ) (f : ℕ) → lt_z y (pos f) ≡ false → lt_z (pos 2029) 
 unfolding served_from
 too_late y f e l = rw (e, l)
 
-pub returns-then-day_of_year-lt1 : goal.returns-then-day_of_year-lt1
-unfolding day_from day_exists
-returns-then-day_of_year-lt1 c = simp (sym (low c.ranges.day_of_year) ∙ c.if-day_of_year-lt1.true)
+too_low : (y d : ℤ) → lt_z d (pos 1) ≡ true → day_exists y d ≡ false
+unfolding day_exists
+too_low y d e = rw (e)
 
-pub returns-then-days-day_of_year : goal.returns-then-days-day_of_year
-unfolding day_from day_exists
-returns-then-days-day_of_year c =
-    simp (sym (low c.ranges.day_of_year) ∙ c.if-day_of_year-lt1.false, sym (high c.ranges.year c.ranges.day_of_year c.days_in_year-days.ensures) ∙ c.if-days-day_of_year.true)
+too_high : (y d : ℤ) → lt_z d (pos 1) ≡ false → lt_z (pos (days_in_year y)) d ≡ true → day_exists y d ≡ false
+unfolding day_exists
+too_high y d e l = rw (e, l)
+
+-- the day is below 1, or above the year's length
+pub returns-then-day_of_year-lt1 : goal.returns-then-day_of_year-lt1
+unfolding day_from
+returns-then-day_of_year-lt1 c =
+    let f : SFits w32 c.args.day.year = search rules in
+    let g : SFits w32 c.args.day.day_of_year = search rules in
+    let n : day_exists c.args.day.year c.args.day.day_of_year ≡ false =
+    elim c.then-day_of_year-lt1.branch [
+      | then-day_of_year-lt1-via-then-day_of_year-lt1 w ↦ too_low _ _ (sym (low g) ∙ w.if-day_of_year-lt1.true)
+      | then-day_of_year-lt1-via-else-day_of_year-lt1+then-days-day_of_year w ↦ too_high _ _ (sym (low g) ∙ w.if-day_of_year-lt1.false) (sym (high f g c.days_in_year-days.ensures) ∙ w.if-days-day_of_year.true)
+    ] in
+    rw n
 
 -- the year is before the first one, or after the last
 pub returns-then-year-first : goal.returns-then-year-first
 unfolding day_from day_exists
 returns-then-year-first c =
-    let y = c.args.year in
-    let f = c.args.first in
-    let n : served_from f y ≡ false =
-    ⊎_elim
-    (λ t. too_early y f (sym (early c.ranges.year c.ranges.first) ∙ t.if-year-first.true))
-    (λ t. let l : lt_z (pos 2029) (to_z w32 (of_z w32 y)) ≡ true = assumption (t) in too_late y f (sym (early c.ranges.year c.ranges.first) ∙ t.if-year-first.false) (sym (late c.ranges.year) ∙ l))
-    c.then-year-first.branch-raw in
-    simp (sym (low c.ranges.day_of_year) ∙ c.if-day_of_year-lt1.false, sym (high c.ranges.year c.ranges.day_of_year c.days_in_year-days.ensures) ∙ c.if-days-day_of_year.false, n, first_is c.ranges.first) refl
+    let f : SFits w32 c.args.day.year = search rules in
+    let g : SFits w32 c.args.day.day_of_year = search rules in
+    let n : served_from c.args.first c.args.day.year ≡ false =
+    elim c.then-year-first.branch [
+      | then-year-first-via-then-year-first w ↦ too_early _ _ (sym (early f c.ranges.first) ∙ w.if-year-first.true)
+      | then-year-first-via-else-year-first+then-year-gt-LAST_YEAR w ↦ too_late _ _ (sym (early f c.ranges.first) ∙ w.if-year-first.false) (sym (late f) ∙ w.if-year-gt-LAST_YEAR.true)
+    ] in
+    simp (sym (low g) ∙ c.if-day_of_year-lt1.false, sym (high f g c.days_in_year-days.ensures) ∙ c.if-days-day_of_year.false, n, first_is c.ranges.first) refl
 
 -- ---- where every test passed
 epoch_of : {y e : ℤ} → SFits w32 y → e ≡ epoch_year_of (to_z w32 (of_z w32 y)) → to_z w32 (of_z w32 e) ≡ epoch_year_of y
@@ -90,25 +103,31 @@ dates {y = y} {d = d} {f = f} g h k n a b e l = accepted f y d (sym (low h) ∙ 
 
 pub overflow_cast-epoch_year : goal.overflow_cast-epoch_year
 overflow_cast-epoch_year c =
-    let d = dates c.ranges.year c.ranges.day_of_year c.ranges.first c.days_in_year-days.ensures (assumption (c)) (assumption (c)) (assumption (c)) (assumption (c)) in
-    narrow (epoch_of c.ranges.year c.date_to_epoch_year-epoch_year.ensures ∙ d.epoch_is) (omega (arith, d.since, d.latest))
+    let f : SFits w32 c.args.day.year = search rules in
+    let g : SFits w32 c.args.day.day_of_year = search rules in
+    let d = dates f g c.ranges.first c.days_in_year-days.ensures (assumption (c)) (assumption (c)) (assumption (c)) (assumption (c)) in
+    narrow (epoch_of f c.date_to_epoch_year-epoch_year.ensures ∙ d.epoch_is) (omega (arith, d.since, d.latest))
 
 pub years_since_epoch-offset-requires-clause-epoch_year_le_year : goal.years_since_epoch-offset-requires-clause-epoch_year_le_year
 years_since_epoch-offset-requires-clause-epoch_year_le_year c =
-    let d = dates c.ranges.year c.ranges.day_of_year c.ranges.first c.days_in_year-days.ensures (assumption (c)) (assumption (c)) (assumption (c)) (assumption (c)) in
-    rw (epoch_of c.ranges.year c.date_to_epoch_year-epoch_year.ensures ∙ d.epoch_is, to_z-of_z w32 c.args.year c.ranges.year ∙ d.year_is) d.since
+    let f : SFits w32 c.args.day.year = search rules in
+    let g : SFits w32 c.args.day.day_of_year = search rules in
+    let d = dates f g c.ranges.first c.days_in_year-days.ensures (assumption (c)) (assumption (c)) (assumption (c)) (assumption (c)) in
+    rw (epoch_of f c.date_to_epoch_year-epoch_year.ensures ∙ d.epoch_is, to_z-of_z w32 c.args.day.year f ∙ d.year_is) d.since
 
 pub returns : goal.returns
 unfolding day_from day_exists
 returns c =
-    let y = c.args.year in
-    let b = c.args.day_of_year in
-    let d = dates c.ranges.year c.ranges.day_of_year c.ranges.first c.days_in_year-days.ensures (assumption (c)) (assumption (c)) (assumption (c)) (assumption (c)) in
-    let yw = to_z-of_z w32 y c.ranges.year in
-    let bw = to_z-of_z w32 b c.ranges.day_of_year in
-    let ew = epoch_of c.ranges.year c.date_to_epoch_year-epoch_year.ensures in
-    let n : c.days_in_year-days.result ≡ d.n = days c.ranges.year c.days_in_year-days.ensures ∙ sym d.days_are in
+    let f : SFits w32 c.args.day.year = search rules in
+    let g : SFits w32 c.args.day.day_of_year = search rules in
+    let y = c.args.day.year in
+    let b = c.args.day.day_of_year in
+    let d = dates f g c.ranges.first c.days_in_year-days.ensures (assumption (c)) (assumption (c)) (assumption (c)) (assumption (c)) in
+    let yw = to_z-of_z w32 y f in
+    let bw = to_z-of_z w32 b g in
+    let ew = epoch_of f c.date_to_epoch_year-epoch_year.ensures in
+    let n : c.days_in_year-days.result ≡ d.n = days f c.days_in_year-days.ensures ∙ sym d.days_are in
     let o : c.years_since_epoch-offset.result ≡ offset_of y (epoch_year_of y) b =
     c.years_since_epoch-offset.ensures ∙ offset_at (yw ∙ d.year_is) (ew ∙ d.epoch_is) (bw ∙ d.day_is) n ∙ sym d.offset_is in
-    let s : served_from c.args.first y ≡ true = served y c.args.first (sym (early c.ranges.year c.ranges.first) ∙ c.if-year-first.false) (sym (late c.ranges.year) ∙ c.if-year-gt-LAST_YEAR.false) in
-    simp (sym (low c.ranges.day_of_year) ∙ c.if-day_of_year-lt1.false, sym (high c.ranges.year c.ranges.day_of_year c.days_in_year-days.ensures) ∙ c.if-days-day_of_year.false, s, ew, o)
+    let s : served_from c.args.first y ≡ true = served y c.args.first (sym (early f c.ranges.first) ∙ c.if-year-first.false) (sym (late f) ∙ c.if-year-gt-LAST_YEAR.false) in
+    simp (sym (low g) ∙ c.if-day_of_year-lt1.false, sym (high f g c.days_in_year-days.ensures) ∙ c.if-days-day_of_year.false, s, ew, o)
