@@ -1,7 +1,7 @@
 -- X, Y and Z alone: the laws of proofs/Answers.antt, Laws.antt and Close.antt, which are of X, Y and Z as of their rates, read for what is said of the first. Assumes nothing.
-use Rattle.refusals.specs.Paper.{Verdict, accepted, Paper, answered, paper}
+use Rattle.refusals.specs.Paper.{accepted, Paper, answered, paper}
 use Rattle.std.specs.Prelude.{Err}
-use Rattle.std.proofs.Common.{◌≡◌, refl, ap, ◌∙◌, List, ℕ, Bool, true, false, ℤ, length, T, Float}
+use Rattle.std.proofs.Common.{◌≡◌, refl, ap, ◌∙◌, List, Bool, true, false, ℤ, length, T, Float}
 use Rattle.exact.specs.Tests.{circle}
 use Rattle.exact.specs.Within.{Within}
 use Rattle.refusals.specs.declared.Refusal.{Refusal}

@@ -5,41 +5,25 @@ use mathlib.Core.Path.{◌≡◌, refl, sym, ap, ◌∙◌}
 use mathlib.Core.Bool.{Bool, true, false, cond}
 use lib.Dec.{T}
 use lib.Ieee.{Float}
-use lib.Ieee.Bits.{is_true}
 use Rattle.exact.specs.Tests.{circle}
 use Rattle.refusals.specs.declared.Refusal.{Refusal}
 use Rattle.refusals.proofs.Laws.{answered_one, no_answer}
 use Rattle.lists.specs.Lists.{Long}
-use Rattle.lists.proofs.Checked.{long_pass}
 use Rattle.models.specs.declared.epochs.EpochOffset.{EpochOffset}
 use Rattle.geocentric.specs.declared.Geocentric.{Geocentric}
 use Rattle.geocentric.specs.Geo.{geocentric_of, height_ok, latitude_ok, ratio_of, ratio_to}
-use Rattle.geocentric.proofs.Laws.{never_10, never_9}
 use Rattle.synthesis.specs.declared.Xyz.{Xyz}
-use Rattle.synthesis.specs.Sum.{Lent, lent, numbers_verdict, offset_ok, ratio_ok, uncapped_says, value_of}
+use Rattle.synthesis.specs.Sum.{Lent, lent, offset_ok, uncapped_says, value_of}
 use Rattle.lists.specs.Profile.{forecast_verdict, pair_verdict}
 use Rattle.lists.proofs.OfProfile.{forecast_listed, pair_listed}
 use Rattle.igrf.specs.Igrf.{Profile, chosen, day_shows_by, fifths, found_by, lists_found, mixed, years_found}
 use Rattle.field.specs.Turn.{turned}
+use Rattle.field.proofs.Uncapped.{uncapped}
 use Rattle.field.specs.Field.{Asked, asked, field_x, field_y, field_z, handed, strengths_of}
 
 -- ---- the sums of checked lists at an accepted place
 module _ (a : Asked) (e : EpochOffset) (H : T (height_ok a.height)) (L : T (latitude_ok a.sin_phi a.cos_phi)) (C : T (circle a.sin_lambda a.cos_lambda)) (O : T (offset_ok e.offset))
     (l : Long a.g a.h a.g_dot a.h_dot) where
-  nine : T (circle (handed a e).sin_theta (handed a e).cos_theta)
-  unfolding handed
-  nine = never_9 a.height a.sin_phi a.cos_phi H L
-
-  ten : T (ratio_ok (handed a e).ratio)
-  unfolding handed ratio_ok
-  ten = never_10 a.height a.sin_phi a.cos_phi H L
-
-  -- Sum without 7 refuses nothing
-  uncapped : uncapped_says (handed a e) ≡ answered (value_of (handed a e))
-  unfolding uncapped_says numbers_verdict handed
-  uncapped =
-      rw (is_true (circle (handed a e).sin_theta (handed a e).cos_theta) nine, is_true (circle a.sin_lambda a.cos_lambda) C, is_true (ratio_ok (handed a e).ratio) ten, is_true (offset_ok e.offset) O, long_pass a.g a.h a.g_dot a.h_dot l) refl
-
   module _ (p : Geocentric) (ep : p ≡ geocentric_of a.height a.sin_phi a.cos_phi) (q : Float) (eq : q ≡ ratio_to p.r) (t : Float) (et : t ≡ e.offset) where
     abbrev asks : Lent
     asks = lent p.cos_theta p.sin_theta a.sin_lambda a.cos_lambda q t a.g a.h a.g_dot a.h_dot
@@ -49,12 +33,12 @@ module _ (a : Asked) (e : EpochOffset) (H : T (height_ok a.height)) (L : T (lati
     handed_is = rw (et, eq, ep)
 
     pub not_refused : {A : Type 0} (k : Refusal) → paper k ≡ uncapped_says asks → A
-    not_refused k h = absurd (no_answer k (value_of (handed a e)) (h ∙ ap uncapped_says handed_is ∙ uncapped))
+    not_refused k h = absurd (no_answer k (value_of (handed a e)) (h ∙ ap uncapped_says handed_is ∙ uncapped a e H L C O l))
 
     pub summed : (v : Xyz) → answered v ≡ uncapped_says asks → (u : Xyz) → u ≡ turned v p a.sin_phi a.cos_phi → answered u ≡ answered (strengths_of a e)
     unfolding value_of turned field_x field_y field_z handed geocentric_of
     summed v h u eu =
-        let ev : v ≡ value_of (handed a e) = answered_one v (value_of (handed a e)) (h ∙ ap uncapped_says handed_is ∙ uncapped) in
+        let ev : v ≡ value_of (handed a e) = answered_one v (value_of (handed a e)) (h ∙ ap uncapped_says handed_is ∙ uncapped a e H L C O l) in
         ap answered (eu ∙ rw (ev, ep))
 
 -- ---- from the day on

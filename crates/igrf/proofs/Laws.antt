@@ -11,7 +11,7 @@ use lib.Signed.{lt_z}
 use Rattle.exact.specs.Tests.{circle}
 use Rattle.refusals.specs.declared.Refusal.{Refusal}
 use Rattle.refusals.specs.declared.Refusal.TheVariants.{DayOfYear, Latitude, Longitude, OtherEpoch}
-use Rattle.refusals.proofs.Laws.{answered_one, check_accepted, no_answer, no_refusal, paper_one, said_one, told_answered}
+use Rattle.refusals.proofs.Laws.{answered_one, check_accepted, no_answer, no_refusal, said_one, told_answered}
 use Rattle.models.specs.declared.epochs.EpochOffset.{EpochOffset}
 use Rattle.models.specs.Epochs.{IGRF_FIRST, day_exists, day_from, days_from, epoch_offset, epoch_year_of, igrf_day, known_epoch, same_year, served_from, wrong_day}
 use Rattle.models.proofs.Years.{same_year_lem, years_served}

@@ -1,5 +1,5 @@
 -- The years of the sets that are read. Assumes nothing.
-use Rattle.refusals.specs.Paper.{Verdict, accepted}
+use Rattle.refusals.specs.Paper.{accepted}
 use Rattle.std.specs.Prelude.{Err}
 use mathlib.Core.Path.{◌≡◌, refl, ap}
 use mathlib.Core.Bool.{Bool, true, false}

@@ -1,7 +1,6 @@
 -- The yearly rates (document 02, Wish 7; the Rust crate, lib.rs, the parts that are built for its tests alone): those of X, Y and Z, those of declination, inclination, H and F that follow
 -- from them, the refusals, and the exact rates that the first three are near. Definitions only.
-use Rattle.refusals.specs.declared.Refusal.{Refusal}
-use Rattle.std.specs.Prelude.{Ok, Err, Result, Bool, ◌||◌, not, T, ℤ, Float}
+use Rattle.std.specs.Prelude.{Bool, ◌||◌, not, T, ℤ, Float}
 use Rattle.std.specs.Float.{binary32}
 use Rattle.std.specs.Float.Ieee.{of_bits, add, sub, mul, div, eq}
 use Rattle.std.specs.Float.Ieee.Scale.{finite}

@@ -1,8 +1,6 @@
-use Rattle.std.proofs.Common.{◌≡◌, ap, sym, ◌∙◌, false, pos, arith, rules}
+use Rattle.std.proofs.Common.{◌≡◌, ap, sym, ◌∙◌, false, pos, rules}
 use Rattle.std.specs.Int.Signed.{lt_z}
-use Rattle.std.proofs.lemmas.Grind.{common_steps}
-use Rattle.refusals.specs.Paper.{answered, said}
-use Rattle.models.specs.Epochs.{igrf_day}
+use Rattle.refusals.specs.Paper.{said}
 use Rattle.igrf.proofs.Laws.{day_good}
 use Rattle.igrf.proofs.accepted.Goals as goal
 

@@ -1,8 +1,5 @@
-use Rattle.std.proofs.Common.{◌≡◌, ap, sym, ◌∙◌, false, refl}
-use Rattle.std.specs.Float.{binary32, Float}
-use Rattle.std.specs.Float.Ieee.{add, eq, mul, of_bits}
-use Rattle.roots.specs.Root.{sqrt_of}
-use Rattle.strengths.specs.Strengths.{f_of, h_of}
+use Rattle.std.proofs.Common.{sym, refl}
+use Rattle.strengths.specs.Strengths.{f_of}
 use Rattle.rates.specs.Rates.{rates_of}
 use Rattle.rates.proofs.Answers.{divided, no_f}
 use Rattle.rates.proofs.rates_with.Goals as goal

@@ -1,6 +1,5 @@
 use Rattle.std.proofs.Common.{◌≡◌, ap, sym, ◌∙◌, rules}
 use Rattle.refusals.specs.Paper.{paper, said}
-use Rattle.refusals.proofs.Laws.{no_answer}
 use Rattle.rates.specs.declared.YearlyRates.{YearlyRates}
 use Rattle.igrf.specs.Igrf.{profile_of}
 use Rattle.rates.specs.Profile.{igrf_rates_says}
