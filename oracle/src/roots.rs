@@ -1,4 +1,4 @@
-//! The square root over whole numbers, by the steps of the Rattle library, held to the
+//! The square root over whole numbers, step by step as the Rattle library has it, held to the
 //! machine's own root on every pattern that is not negative.
 use std::thread;
 use std::time::Instant;
@@ -16,23 +16,17 @@ fn guess(x: u64) -> u64 {
     }
 }
 
-/// The whole number nearest to the root of x, by halving. The library takes it from `isqrt`: it is the
-/// same number.
-fn halved_root(x: u64) -> u64 {
-    let mut low: u64 = 8388608;
-    let mut high: u64 = 16777216;
-    while low + 1 < high {
-        let mid = (low + high) / 2;
-        if mid * mid < x + mid {
-            low = mid;
-        } else {
-            high = mid;
-        }
+/// The whole number nearest to the root of x, from the one at or below it.
+fn from_floor(x: u64) -> u64 {
+    let floor = x.isqrt();
+    if floor * floor + floor < x {
+        floor + 1
+    } else {
+        floor
     }
-    low
 }
 
-/// The same: the guess, if it is the one, and else by halving.
+/// The same: the guess, if it is the one.
 fn near_root(x: u64) -> u64 {
     let g = guess(x);
     if (8388608..16777216).contains(&g) {
@@ -41,18 +35,13 @@ fn near_root(x: u64) -> u64 {
             return g;
         }
     }
-    halved_root(x)
+    from_floor(x)
 }
 
 /// t of the smallest f32, as (m, f) with m of 24 binary digits: m * 2^(f - 214).
 fn lifted(t: u32) -> (u32, u32) {
-    let mut m = t;
-    let mut f: u32 = 65;
-    while m < 8388608 {
-        m *= 2;
-        f -= 1;
-    }
-    (m, f)
+    let places = t.leading_zeros() - 8;
+    (t << places, 65 - places)
 }
 
 /// The bit pattern of the root of m * 2^(f - 214).

@@ -122,6 +122,7 @@ impl<'a> TextLines<'a> {
     fn header(&mut self) -> Result<i32, Refusal>
         ensures header { taken result self.new.rest.now ≡ header_says (lines self.old.rest.now) }
         ensures number { OnOk result (self.new.number ≡ self.old.number + 1) }
+        ensures shorter { OnOk result (length self.new.rest.now < length self.old.rest.now) }
     {
         let line = self.next().ok_or(Refusal::OutOfOrder { line: 1 })?;
         Words { rest: line }
@@ -133,6 +134,7 @@ impl<'a> TextLines<'a> {
     fn row(&mut self, due: Place) -> Result<Entry, Refusal>
         ensures row { taken result self.new.rest.now ≡ row_says self.old.number due (lines self.old.rest.now) }
         ensures number { OnOk result (self.new.number ≡ self.old.number + 1) }
+        ensures shorter { OnOk result (length self.new.rest.now < length self.old.rest.now) }
     {
         let number = self.number;
         let line = self.next().ok_or(Refusal::OutOfOrder { line: number })?;

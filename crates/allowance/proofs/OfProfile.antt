@@ -166,6 +166,11 @@ module _ (a : Profile) (year day : ℤ) where
         let ee : e ≡ epoch_offset year day = answered_one e (epoch_offset year day) (i ∙ day_is) in
         ap answered (ap (λ (b : Bool). igrf_allowances a b e) (sym s) ∙ ap (igrf_allowances a (early year)) ee) ∙ said_after (answered v) h
 
+    pub allowances_shown : (e : EpochOffset) → answered e ≡ igrf_day year day → (soon : Bool) → soon ≡ early year → (r : Allowances) → r ≡ cond soon (allowances_of (spread a e) e) (allowances_of a.one e) → answered r ≡ igrf_allowance_says a year day
+    allowances_shown e i soon s r er =
+        let c : cond soon (allowances_of (spread a e) e) (allowances_of a.one e) ≡ igrf_allowances a soon e = chosen_shown a e soon (λ t. pair_long (sym s ∙ t)) in
+        ap answered (er ∙ c) ∙ shown_is e i soon (sym s)
+
     -- before 2025: with the sizes of both sets in the place of the rates
     pub early_said : (e : EpochOffset) → answered e ≡ igrf_day year day → early year ≡ true → (z : ℤ) (x y : List Float) → x ≡ spans a.one.g a.second_g → y ≡ spans a.one.h a.second_h
         → (r : Allowances) → r ≡ allowances_of (with_rates a.one z x y) e → answered r ≡ igrf_allowance_says a year day

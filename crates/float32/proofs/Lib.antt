@@ -5,3 +5,4 @@ pub mod Patterns
 pub mod Values
 pub mod Unsigned
 pub mod Unique
+pub mod Branches

@@ -1,7 +1,7 @@
 // The checks of the lists in the IGRF profile: of g and h of two sets before 2025, of one set's four
 // lists from then on.
 ghost use Rattle.std.specs.Prelude.{◌≡◌};
-ghost use Rattle.lists.specs.Profile.{forecast_verdict, pair_verdict, still};
+ghost use Rattle.lists.specs.Profile.{all_zero, forecast_verdict, pair_verdict, still};
 
 use crate::{Lists, MAIN_CAP, RATE_CAP};
 use refusals::{ListName, Refusal, Verdict};
@@ -36,11 +36,22 @@ pub fn check_pair(first: Lists<'_>, second: SecondSet<'_>) -> Verdict
     both.search_caps(ListName::SecondG, ListName::SecondH, MAIN_CAP)
 }
 
+// Every entry is zero, of either sign.
+fn are_zero(s: &[f32]) -> bool
+    ensures { result ≡ all_zero s.now }
+{
+    s.iter().all(|x| *x == 0.0)
+}
+
 // Every rate above degree 8 is zero, of either sign.
 fn is_still(s: &[f32]) -> bool
     ensures { result ≡ still s.now }
 {
-    s.iter().skip(FREE).all(|x| *x == 0.0)
+    // By the part itself: `skip` would step over those before it one by one.
+    match s.get(FREE..) {
+        Some(above) => are_zero(above),
+        None => true,
+    }
 }
 
 impl<'a> Lists<'a> {

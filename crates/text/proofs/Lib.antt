@@ -13,3 +13,4 @@ pub mod Ways
 mod DecimalVectors
 pub mod Numbers
 pub mod Unique
+pub mod Parts

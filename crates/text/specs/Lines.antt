@@ -1,5 +1,5 @@
 -- The lines of a text. Definitions only.
-use Rattle.std.specs.Prelude.{Bool, false, not, ◌&&◌, cond, List, [], ◌∷◌, ℕ, ◌+◌, eqb, drop}
+use Rattle.std.specs.Prelude.{Bool, false, not, ◌&&◌, cond, List, [], ◌∷◌, ℕ, ◌+◌, ◌-◌, eqb, drop, length}
 use Rattle.text.specs.Bytes.{LF, CR, onto, until}
 
 -- an LF stands first
@@ -28,6 +28,10 @@ pub record LinePlaces : Type 0 where
 
 unfoldable pub first_line : List ℕ → LinePlaces
 first_line s = let n = until at_end s in record { end = n; next = n + ending (drop n s) }
+
+-- these places of s, by two parts of it: the first line, and what stands after that
+abbrev pub line_places : List ℕ → List ℕ → List ℕ → LinePlaces
+line_places s line rest = record { end = length line; next = length s - length rest }
 
 -- a line without the CR that stands last in it
 unfoldable pub without_return : List ℕ → List ℕ

@@ -1,5 +1,5 @@
 -- The words of a line. Definitions only.
-use Rattle.std.specs.Prelude.{Bool, false, not, cond, List, [], ◌∷◌, ℕ, ◌+◌, drop}
+use Rattle.std.specs.Prelude.{Bool, false, not, cond, List, [], ◌∷◌, ℕ, ◌+◌, ◌-◌, drop, length}
 use Rattle.text.specs.Bytes.{blank, onto, until}
 
 -- a blank stands first; a byte that is none
@@ -23,3 +23,7 @@ pub record WordPlaces : Type 0 where
 
 unfoldable pub first_word : List ℕ → WordPlaces
 first_word s = let n = until at_word s in record { start = n; end = n + until at_blank (drop n s) }
+
+-- these places of s, by two parts of it: the first word, and what stands after that
+abbrev pub word_places : List ℕ → List ℕ → List ℕ → WordPlaces
+word_places s word rest = let end = length s - length rest in record { start = end - length word; end = end }

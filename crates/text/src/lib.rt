@@ -7,8 +7,8 @@ mod spans;
 
 ghost use Rattle.std.specs.Prelude.{◌≡◌, drop, slice_range, take};
 ghost use Rattle.text.specs.Bytes.{blank};
-ghost use Rattle.text.specs.Lines.{first_line};
-ghost use Rattle.text.specs.Words.{first_word};
+ghost use Rattle.text.specs.Lines.{first_line, line_places};
+ghost use Rattle.text.specs.Words.{first_word, word_places};
 ghost use Rattle.text.specs.Decimals.{decimal_of, number_of, whole_of};
 
 const TAB: u8 = b'\t';
@@ -40,6 +40,7 @@ pub struct Decimal {
 pub fn first_line(s: &[u8]) -> FirstLine<'_>
     ensures line { result.line.now ≡ take (first_line s.now).end s.now }
     ensures rest { result.rest.now ≡ drop (first_line s.now).next s.now }
+    ensures places { line_places s.now result.line.now result.rest.now ≡ first_line s.now }
     ensures kept { s.exit.now ≡ s.entry.now }
 {
     let Some(at) = spans::line_feed(s) else {
@@ -61,6 +62,7 @@ pub fn is_blank(c: u8) -> bool
 pub fn first_word(s: &[u8]) -> FirstWord<'_>
     ensures word { let w = first_word s.now in result.word.now ≡ slice_range s.now w.start w.end }
     ensures rest { result.rest.now ≡ drop (first_word s.now).end s.now }
+    ensures places { word_places s.now result.word.now result.rest.now ≡ first_word s.now }
     ensures kept { s.exit.now ≡ s.entry.now }
 {
     let words = &s[spans::blanks(s)..];

@@ -17,7 +17,7 @@ pub small_is : (m k s c : ℕ) (x y : Float) → x ≡ float_of s → s ≡ sine
 unfolding small_pair
 small_is m k s c x y e f g h = rw (e, f, g, h)
 
-near_is : (y m k : ℕ) (p : Pair) → p ≡ small_pair m k → m ≡ y * 2 ^ lift_by y → k ≡ lift_by y → p ≡ near_pair y
+pub near_is : (y m k : ℕ) (p : Pair) → p ≡ small_pair m k → m ≡ y * 2 ^ lift_by y → k ≡ lift_by y → p ≡ near_pair y
 unfolding near_pair
 near_is y m k p e f g = e ∙ rw (f, g)
 
