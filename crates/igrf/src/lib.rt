@@ -2,8 +2,8 @@
 // lent sets that are five years apart, from then on from the set of 2025 alone.
 #![tactic(auto)]
 
-ghost use Rattle.std.specs.Prelude.{◌≡◌, IfOk, cond, false, pos, ◌+ℤ◌};
-ghost use Rattle.refusals.specs.Paper.{said, both};
+ghost use Rattle.std.specs.Prelude.{◌≡◌, IfOk, cond, false, true, pos, ◌+ℤ◌};
+ghost use Rattle.refusals.specs.Paper.{answered, said, both};
 ghost use Rattle.std.specs.Int.Signed.{lt_z};
 ghost use Rattle.models.specs.Epochs.{epoch_offset};
 ghost use Rattle.lists.specs.Profile.{forecast_verdict, pair_verdict};
@@ -71,6 +71,39 @@ fn accepted(
     Ok(e)
 }
 
+// X, Y and Z of an accepted question before 2025. A function of its own: the arrays of the gap are cleared
+// at the entry of the function that they stand in, and no other call is to wait for that.
+fn xyz_between(
+    place: Place,
+    day: Day,
+    e: EpochOffset,
+    first: CoefficientSet<'_>,
+    second: SecondSet<'_>,
+) -> Result<Xyz, Refusal>
+    requires accepted { accepted_says (profile_of place first second) day.year day.day_of_year ≡ answered e }
+    requires early { igrfs.early day.year ≡ true }
+    ensures { said result ≡ igrf_says (profile_of place first.entry second.entry) day.year day.day_of_year }
+{
+    let gap = Gap::between::<Rate>(first.lists, second);
+    xyz_uncapped(place, e.offset, gap.lists(first.lists))
+}
+
+// Their yearly rates in the same way.
+fn yearly_between(
+    place: Place,
+    day: Day,
+    e: EpochOffset,
+    first: CoefficientSet<'_>,
+    second: SecondSet<'_>,
+) -> Result<Xyz, Refusal>
+    requires accepted { accepted_says (profile_of place first second) day.year day.day_of_year ≡ answered e }
+    requires early { igrfs.early day.year ≡ true }
+    ensures { said result ≡ rate_says (profile_of place first.entry second.entry) day.year day.day_of_year }
+{
+    let gap = Gap::between::<Rate>(first.lists, second);
+    xyz_uncapped(place, 0.0, gap.lists(first.lists).rated())
+}
+
 // X, Y and Z. `answer` is demands 1 and 2, `distance` demand 3; the lent slices keep what they hold.
 pub fn igrf(
     place: Place,
@@ -84,8 +117,7 @@ pub fn igrf(
 {
     let e = accepted(place, day, first, second)?;
     if early(day.year) {
-        let gap = Gap::between::<Rate>(first.lists, second);
-        return xyz_uncapped(place, e.offset, gap.lists(first.lists));
+        return xyz_between(place, day, e, first, second);
     }
     xyz_uncapped(place, e.offset, first.lists)
 }
@@ -102,10 +134,9 @@ pub fn igrf_component_rates(
     ensures distance { IfOk result (λ v. RateClose (profile_of place first.entry second.entry) (igrfs.early day.year) v.x v.y v.z) }
     ensures kept { (first.exit ≡ first.entry) × (second.exit ≡ second.entry) }
 {
-    accepted(place, day, first, second)?;
+    let epoch = accepted(place, day, first, second)?;
     if early(day.year) {
-        let gap = Gap::between::<Rate>(first.lists, second);
-        return xyz_uncapped(place, 0.0, gap.lists(first.lists).rated());
+        return yearly_between(place, day, epoch, first, second);
     }
     xyz_uncapped(place, 0.0, first.lists.rated())
 }
