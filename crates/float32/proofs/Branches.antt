@@ -2,14 +2,14 @@
 -- `zero_with_a_sign` have one and cite these, so that each is refused for the value in it alone. Assumes nothing.
 use mathlib.Core.Path.{◌≡◌, refl, sym, ap, subst, ◌∙◌}
 use mathlib.Core.Bool.{Bool, true, false, not, ◌||◌, beq, true≢false}
-use Prim.Native.Nat.{ℕ, zero, suc, ◌*◌, ◌%◌, ◌<◌, ◌≤◌}
+use Prim.Native.Nat.{ℕ, zero, suc, ◌*◌, ◌%◌, ◌<◌}
 use native.Mathlib.Nat.{mul-pos, zero-mul, zero-lt-suc}
 use native.Mathlib.Omega.{arith}
 use lib.Dec.{T, eqb, eqb→eq}
 use lib.IntN.{ℤ, pos}
 use borrow.Author.Tests.{lt-ltb}
-use lib.Ieee.{Float, nan, inf, fin, binary32, eq, ne, is_nan, nan_bits, fits, to_bits, of_bits, up, down}
-use lib.Ieee.Bits.{is_true, nan_bits_above}
+use lib.Ieee.{Float, nan, inf, fin, binary32, eq, ne, fits, of_bits, up, down}
+use lib.Ieee.Bits.{nan_bits_above}
 use lib.Ieee.Compare.{differs_from_itself}
 use lib.Ieee.Fits.{up_pos, and_l}
 use lib.Ieee.Back.{whole_unique}

@@ -1,4 +1,4 @@
--- Laws that other crates cite.
+-- Laws that other crates cite, and `Branches`, which three wrong versions of this one cite.
 pub mod Checks
 pub mod Bits
 pub mod Patterns
